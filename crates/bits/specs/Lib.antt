@@ -1,0 +1,7 @@
+-- What the crate `bits` is about, as a reader must believe it.
+--     Digits    the binary digits of a number, its length, its bits
+--     Words     one bit changed, low bits compared; words of a fixed width and masks of stations
+--     Log       ceil(log2 n)
+pub mod Digits
+pub mod Words
+pub mod Log

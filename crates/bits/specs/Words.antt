@@ -1,0 +1,35 @@
+-- One bit changed, and the low bits of two numbers compared (paper 000, section 3: writing j[k], and j[k..0]);
+-- the same for words of a fixed width, and masks of stations. Assumes nothing.
+use Prim.Native.Nat.{ℕ, zero, suc, _+_, _-_, _*_, _^_}
+use mathlib.Core.Bool.{Bool, true, false, _&&_, Bool·beq, cond}
+use lib.Dec.{ltb}
+use Rattle.bits.specs.Digits.{value, bit}
+
+-- n with bit k made b: bit k is taken out, and b put in its place; every other bit stays
+unfoldable pub withBit : ℕ → Bool → ℕ → ℕ
+withBit k b n = n - value (bit k n) * 2 ^ k + value b * 2 ^ k
+
+-- the low k + 1 bits of a and b agree: a[k..0] = b[k..0]
+unfoldable pub lowAgree : ℕ → ℕ → ℕ → Bool
+lowAgree zero a b = Bool·beq (bit 0 a) (bit 0 b)
+lowAgree (suc k) a b = Bool·beq (bit (suc k) a) (bit (suc k) b) && lowAgree k a b
+
+-- how many bits a claim has: the one place that says it
+abbrev pub claimBits : ℕ
+claimBits = 32
+
+-- how many stations a mask has room for
+abbrev pub maskBits : ℕ
+maskBits = 32
+
+-- a word of w bits with bit k made b: a word has no bit at or past its width, and there nothing changes
+unfoldable pub wordWithBit : ℕ → ℕ → Bool → ℕ → ℕ
+wordWithBit w k b n = cond (ltb k w) (withBit k b n) n
+
+-- a mask is a set of stations: station s is in it where bit s is 1
+unfoldable pub member : ℕ → ℕ → Bool
+member s mask = bit s mask
+
+-- the mask with station s in it; a station past the mask's room changes nothing
+unfoldable pub insert : ℕ → ℕ → ℕ
+insert s mask = wordWithBit maskBits s true mask
