@@ -1,1 +1,7 @@
 -- Laws about the definitions of specs/ that belong to no one function.
+--     Digits    a number by its bits, and its length
+--     Words     one bit changed, low bits compared
+--     Log       ceil(log2 n)
+pub mod Digits
+pub mod Words
+pub mod Log

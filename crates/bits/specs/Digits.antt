@@ -1,8 +1,10 @@
 -- The binary digits of a number (paper 000, section 3: j is written j_m .. j_1 j_0, and j_m is 1 unless j is 0).
 -- A digit is a Bool: true is 1. Assumes nothing.
-use Prim.Native.Nat.{ℕ, zero, suc, _/_, _%_}
+use Prim.Native.Nat.{ℕ, zero, suc, _-_, _/_, _%_, _^_, _<_, max}
 use mathlib.Core.Bool.{Bool, true, false}
 use mathlib.Core.List.{List, [], _∷_}
+use mathlib.Core.Path.{_≡_}
+use lib.Count.{leadingZeros}
 use lib.Dec.{eqb}
 use lib.ListN.{length, getD}
 
@@ -32,3 +34,7 @@ bitLength n = length (binaryDigits n)
 -- Paper 000, section 3: n[k] is digit k of n, and 0 past its highest digit.
 unfoldable pub bit : ℕ → ℕ → Bool
 bit k n = getD (binaryDigits n) k false
+
+-- 01, "The settlement": the length rule for any width w. A number of w bits is as long as what its leading zeros leave of w, and at least 1.
+abbrev pub LengthRule : Type 0
+LengthRule = (w n : ℕ) → 0 < w → n < 2 ^ w → bitLength n ≡ max 1 (w - leadingZeros w n)
