@@ -13,3 +13,5 @@ pub mod Own
 pub mod Spelling
 pub mod Steps
 pub mod Reached
+pub mod Station
+pub mod Accepted

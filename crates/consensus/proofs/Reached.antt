@@ -24,7 +24,7 @@ next-ind C o st e old new = cond-ind C (eqb (number o st e) 0) (effect o st e) s
 
 -- ---- what an accepted event tells
 
-station-below : (o : Opening) (s : ℕ) → no-station o s ≡ false → s < o .count
+pub station-below : (o : Opening) (s : ℕ) → no-station o s ≡ false → s < o .count
 station-below o s e = ltb-true s (o .count) (not-false→true (ltb s (o .count)) e)
 
 module _ (o : Opening) (st : State) where
@@ -114,11 +114,11 @@ module _ (o : Opening) (st : State) where
 
 -- ---- each event keeps the invariant
 
-unanswered-none : (x : Option Bool) → answered x ≡ false → x ≡ none
+pub unanswered-none : (x : Option Bool) → answered x ≡ false → x ≡ none
 unanswered-none none e = refl
 unanswered-none (some a) e = no-clash true refl e
 
-idle-of : (g : Stage) → not-idle g ≡ false → g ≡ idle
+pub idle-of : (g : Stage) → not-idle g ≡ false → g ≡ idle
 idle-of idle e = refl
 idle-of waiting e = no-clash true refl e
 idle-of (voting j k d) e = no-clash true refl e
@@ -188,7 +188,7 @@ module _ (o : Opening) (st : State) (inv : Inv o st) where
       grows : Own-grows st s (losing (st .station s))
       grows = record { claims = λ c. (c, refl); helds = λ t e. e; casts = λ b x e. e }
 
-  answer-grows : (b a : ℕ) → Answer-accepted o st b a → Grows st (effect o st (answer b a))
+  pub answer-grows : (b a : ℕ) → Answer-accepted o st b a → Grows st (effect o st (answer b a))
   unfolding effect
   answer-grows b a x = record {
     claims = λ s e. (e, refl);
