@@ -15,3 +15,4 @@ pub mod Steps
 pub mod Reached
 pub mod Station
 pub mod Accepted
+pub mod Told

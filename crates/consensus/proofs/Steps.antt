@@ -21,7 +21,7 @@ use Rattle.consensus.proofs.Invariant.{Fits, Word, Candidate, Unfinishe
 use Rattle.consensus.proofs.Own.{Move, moved, move-inv}
 use Rattle.consensus.proofs.Spelling
 
-abbrev opening : ℕ → Rule → Opening
+abbrev pub opening : ℕ → Rule → Opening
 opening n r = record { count = n; rule = r }
 
 -- an answered ballot has a bit
@@ -46,7 +46,7 @@ some-round n p ne = go (ceilLog2 n) (log-enough n)
     go zero l = absurd (ne (omega arith))
     go (suc r) l = omega arith
 
-one-station : ceilLog2 1 ≡ 0
+pub one-station : ceilLog2 1 ≡ 0
 unfolding ceilLog2 Rattle.bits.specs.Log.leastFrom
 one-station = refl
 
