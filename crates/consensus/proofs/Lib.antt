@@ -16,3 +16,6 @@ pub mod Reached
 pub mod Station
 pub mod Accepted
 pub mod Told
+pub mod Longest
+pub mod Agree
+pub mod Bound

@@ -164,7 +164,7 @@ waited-answered o st s (finish-awaiting j k d) b w n =
 waited-answered o st s (decided v k) b w n = absurd (Option·none-ne-some b w)
 
 -- 0, 1, .., m - 1
-pub up-to : ℕ → List ℕ
+unfoldable pub up-to : ℕ → List ℕ
 up-to zero = []
 up-to (suc m) = up-to m ++ (m ∷ [])
 
