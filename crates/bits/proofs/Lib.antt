@@ -2,6 +2,8 @@
 --     Digits    a number by its bits, and its length
 --     Words     one bit changed, low bits compared
 --     Log       ceil(log2 n)
+--     Examples  the numbers that document 01 writes out
 pub mod Digits
 pub mod Words
 pub mod Log
+pub mod Examples

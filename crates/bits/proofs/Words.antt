@@ -5,11 +5,13 @@ use Prim.Native.Nat.{ℕ, zero, suc, _+_, _-_, _*_, _/_, _%_, _^_, _≤_, _<_, z
 use mathlib.Core.Path.{_≡_, refl, sym, ap, ap₂, _∙_, subst}
 use mathlib.Core.Logic.{⊎-elim}
 use mathlib.Core.Bool.{Bool, true, false, Bool·beq, and-eq-true-iff}
-use native.Mathlib.Nat.{le-refl, le-step, le-suc, le-of-suc-le-suc, not-suc-le-zero, eq-or-lt-of-le, lt-of-lt-of-le, ne-of-gt, zero-lt-suc, mod-lt, mod-eq-of-lt, mul-one, mul-assoc, pow-suc}
+use native.Mathlib.Nat.{le-refl, le-step, le-suc, le-of-suc-le-suc, not-suc-le-zero, eq-or-lt-of-le, lt-of-lt-of-le, ne-of-gt, zero-lt-suc, mod-lt, mod-eq-of-lt, mul-one, one-mul, mul-assoc, pow-suc}
+use native.Mathlib.Numerals.{add-one}
 use native.Mathlib.Omega.{arith}
 use lib.Arith.{le-zero, digits-div, digits-mod, mod-mul}
 use lib.Dec.{eqb, ltb}
-use lib.Pow.{pow-pos}
+use lib.Pow.{pow-pos, pow-mono, shl-exact}
+use mir.Val.{boolByte}
 use borrow.Author.Tests.{eqb-true, eq-eqb, lt-ltb, le-ltb, ltb-true, ltb-false}
 use Rattle.bits.specs.Digits.{value, bit}
 use Rattle.bits.specs.Words.{withBit, lowAgree, wordWithBit}
@@ -90,6 +92,26 @@ pub with-lt : (w k : ℕ) (b : Bool) (n : ℕ) → k < w → n < 2 ^ w → withB
 with-lt w k b n h l =
     lt-of-bits w (withBit k b n) (λ i g. bit-other k i b n (ne-of-gt (lt-of-lt-of-le h g)) ∙ bit-above w n l i g)
 
+pub word-lt : (w k : ℕ) (b : Bool) (n : ℕ) → k < w → n < 2 ^ w → wordWithBit w k b n < 2 ^ w
+word-lt w k b n h l = rw (word-inside w k b n h) (with-lt w k b n h l)
+
+-- ---- what code on a word of w bits computes: below the width a shift loses nothing
+
+pub shift-exact : (w k a : ℕ) → a < 2 → k < w → a * 2 ^ k % 2 ^ w ≡ a * 2 ^ k
+shift-exact w k a l h = shl-exact 1 k w l (omega arith)
+
+bool-shift : (w k : ℕ) (b : Bool) → k < w → boolByte b * 2 ^ k % 2 ^ w ≡ value b * 2 ^ k
+bool-shift w k true h = shift-exact w k 1 (value-lt true) h
+bool-shift w k false h = shift-exact w k 0 (value-lt false) h
+
+pub word-taken : (w k n : ℕ) (old : Bool) → k < w → old ≡ bit k n → boolByte old * 2 ^ k % 2 ^ w ≤ n
+word-taken w k n old h e = rw (bool-shift w k old h, e) (bit-le k n)
+
+pub word-made : (w k n : ℕ) (old new : Bool) → k < w → old ≡ bit k n
+    → n - boolByte old * 2 ^ k % 2 ^ w + boolByte new * 2 ^ k % 2 ^ w ≡ wordWithBit w k new n
+unfolding withBit
+word-made w k n old new h e = rw (bool-shift w k old h, bool-shift w k new h, e) (sym (word-inside w k new n h))
+
 -- ---- low bits compared
 
 beq-true : (x y : Bool) → Bool·beq x y ≡ true → x ≡ y
@@ -151,6 +173,17 @@ lowAgree-mod k a b =
     (λ e. eq-eqb (a % m) (b % m) (same-mod (suc k) a b (λ i l. agree-bits k a b e i (le-of-suc-le-suc l))))
     (λ e. bits-agree k a b (λ i l. sym (bit-mod (suc k) i a (suc-le-suc l)) ∙ ap (bit i) (eqb-true (a % m) (b % m) e) ∙ bit-mod (suc k) i b (suc-le-suc l)))
 
--- numbers of w bits that agree in as many low bits are equal
-pub lowAgree-whole : (k a b : ℕ) → a < 2 ^ suc k → b < 2 ^ suc k → lowAgree k a b ≡ eqb a b
-lowAgree-whole k a b h l = lowAgree-mod k a b ∙ ap₂ eqb (mod-eq-of-lt h) (mod-eq-of-lt l)
+-- ---- what code on a word of w bits computes: the remainders by 2 ^ (k + 1), or the whole word where it has no more bits
+
+pub power-exact : (w k : ℕ) → k < w → 1 * 2 ^ k % 2 ^ w ≡ 2 ^ k
+power-exact w k h = shift-exact w k 1 (le-refl 2) h ∙ one-mul (2 ^ k)
+
+pub power-positive : (w k : ℕ) → k < w → 0 < 1 * 2 ^ k % 2 ^ w
+power-positive w k h = rw (power-exact w k h) (pow-pos k)
+
+pub agree-made : (w k a b : ℕ) → k + 1 < w → eqb (a % (1 * 2 ^ (k + 1) % 2 ^ w)) (b % (1 * 2 ^ (k + 1) % 2 ^ w)) ≡ lowAgree k a b
+agree-made w k a b h = rw (power-exact w (k + 1) h, add-one k) (sym (lowAgree-mod k a b))
+
+pub agree-whole : (w k a b : ℕ) → w ≤ suc k → a < 2 ^ w → b < 2 ^ w → eqb a b ≡ lowAgree k a b
+agree-whole w k a b h l m =
+    sym (lowAgree-mod k a b ∙ ap₂ eqb (mod-eq-of-lt (lt-of-lt-of-le l (pow-mono h))) (mod-eq-of-lt (lt-of-lt-of-le m (pow-mono h))))
