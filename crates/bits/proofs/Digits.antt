@@ -6,7 +6,7 @@ use mathlib.Core.Path.{_≡_, refl, sym, ap, ap₂, _∙_, subst}
 use mathlib.Core.Logic.{_≢_}
 use mathlib.Core.Bool.{Bool, true, false, false≢true}
 use mathlib.Core.List.{List, [], _∷_}
-use native.Mathlib.Nat.{le-refl, le-trans, le-antisymm, le-of-eq, le-max-left, le-max-right, max-le, le-add-right, le-add-left, not-suc-le-zero, le-of-suc-le-suc, lt-of-lt-of-le, lt-of-not-le, zero-lt-suc, mod-lt, div-one, div-eq-of-lt, div-add-mod', div-div-eq-div-mul, div-lt-iff-lt-mul, pow-suc, pow-succ', eq-zero-or-pos}
+use native.Mathlib.Nat.{le-antisymm, le-of-eq, le-max-left, le-max-right, max-le, le-add-right, le-add-left, not-suc-le-zero, le-of-suc-le-suc, lt-of-lt-of-le, lt-of-not-le, zero-lt-suc, div-one, div-eq-of-lt, div-add-mod', div-div-eq-div-mul, div-lt-iff-lt-mul, pow-suc, pow-succ'}
 use native.Mathlib.Omega.{arith}
 use lib.Arith.{le-zero, half-le, bin-ind}
 use lib.Count.{leadingZeros, leading-length}

@@ -65,19 +65,6 @@ bit-other (suc k) (suc i) b n d =
     ap (bit (suc i)) (with-step k b n) ∙ high-made i (withBit k b (n / 2)) (bit 0 n)
     ∙ bit-other k i b (n / 2) (λ e. d (ap suc e)) ∙ sym (bit-step i n)
 
--- a bit that is changed adds or takes away its power of 2, and one that stands changes nothing
-pub with-kept : (k n : ℕ) → withBit k (bit k n) n ≡ n
-unfolding withBit
-with-kept k n = omega (arith, bit-le k n)
-
-pub with-set : (k n : ℕ) → bit k n ≡ false → withBit k true n ≡ n + 2 ^ k
-unfolding withBit
-with-set k n e = rw e (omega arith)
-
-pub with-cleared : (k n : ℕ) → bit k n ≡ true → withBit k false n ≡ n - 2 ^ k
-unfolding withBit
-with-cleared k n e = rw e (omega arith)
-
 -- ---- words of a width
 
 pub word-inside : (w k : ℕ) (b : Bool) (n : ℕ) → k < w → wordWithBit w k b n ≡ withBit k b n
@@ -92,8 +79,22 @@ pub with-lt : (w k : ℕ) (b : Bool) (n : ℕ) → k < w → n < 2 ^ w → withB
 with-lt w k b n h l =
     lt-of-bits w (withBit k b n) (λ i g. bit-other k i b n (ne-of-gt (lt-of-lt-of-le h g)) ∙ bit-above w n l i g)
 
-pub word-lt : (w k : ℕ) (b : Bool) (n : ℕ) → k < w → n < 2 ^ w → wordWithBit w k b n < 2 ^ w
-word-lt w k b n h l = rw (word-inside w k b n h) (with-lt w k b n h l)
+-- what holds of both, changed and as it was, holds of the word
+word-either : (P : ℕ → Type 0) (w k : ℕ) (b : Bool) (n : ℕ) → (k < w → P (withBit k b n)) → P n → P (wordWithBit w k b n)
+word-either P w k b n f p = go (ltb k w) refl
+  where
+    go : (t : Bool) → ltb k w ≡ t → P (wordWithBit w k b n)
+    go true e = let h = ltb-true k w e in subst P (sym (word-inside w k b n h)) (f h)
+    go false e = subst P (sym (word-outside w k b n (ltb-false k w e))) p
+
+pub word-lt : (w k : ℕ) (b : Bool) (n : ℕ) → n < 2 ^ w → wordWithBit w k b n < 2 ^ w
+word-lt w k b n l = word-either (λ (x : ℕ). x < 2 ^ w) w k b n (λ h. with-lt w k b n h l) l
+
+pub word-same : (w k : ℕ) (b : Bool) (n : ℕ) → k < w → bit k (wordWithBit w k b n) ≡ b
+word-same w k b n h = ap (bit k) (word-inside w k b n h) ∙ bit-same k b n
+
+pub word-other : (w k i : ℕ) (b : Bool) (n : ℕ) → (i ≡ k → ⊥) → bit i (wordWithBit w k b n) ≡ bit i n
+word-other w k i b n d = word-either (λ (x : ℕ). bit i x ≡ bit i n) w k b n (λ h. bit-other k i b n d) refl
 
 -- ---- what code on a word of w bits computes: below the width a shift loses nothing
 

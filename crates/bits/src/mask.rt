@@ -1,5 +1,5 @@
 // A set of stations as a mask: station s is in it where bit s is 1.
-// A count of the stations of a mask belongs here, with its laws beside `member` and `insert` in specs/Words.antt and proofs/Words.antt.
+// A count of the stations in a mask, once it is asked for, belongs here; its definition in specs/Words.antt, its laws in proofs/Masks.antt.
 ghost use mathlib.Core.Path.{_≡_};
 ghost use Rattle.bits.specs.Words.{member, insert};
 use crate::word::Word;

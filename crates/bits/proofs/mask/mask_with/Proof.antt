@@ -17,7 +17,10 @@ with-bit-requires c κs = search needs
 
 returns-2 : tie.Need-returns-2
 unfolding insert
-returns-2 c = let s = c .before .before .args .s in let mask = c .before .before .args .mask in c .with-bit .ensures ∙ word-inside claimBits s true mask (omega arith) ∙ sym (word-inside maskBits s true mask (omega arith))
+returns-2 c =
+    let a = c .before .before .args in
+    c .with-bit .ensures ∙ word-inside claimBits (a .s) true (a .mask) (omega arith)
+    ∙ sym (word-inside maskBits (a .s) true (a .mask) (omega arith))
 
 pub mask-with-spec : {M : Type 1} → statement M
 mask-with-spec = tie.close (tie.spec returns with-bit-requires returns-2)

@@ -1,4 +1,5 @@
 -- `bits::word::bit_length`: the length rule at the width of a word. Assumes nothing.
+use native.Mathlib.Nat.{lt-of-le-of-lt}
 use native.Mathlib.Omega.{arith}
 use lib.Count.{leading-le}
 use lib.Dec.{lit<}
@@ -9,10 +10,10 @@ use Rattle.bits.proofs.word.bit_length.Statement.{statement}
 use Rattle.bits.proofs.word.bit_length.Tie as tie
 
 cast-digits : tie.Need-cast-digits
-cast-digits c = record { fits = omega (arith, leading-le claimBits (c .args .x)) }
+cast-digits c = record { fits = lt-of-le-of-lt (leading-le claimBits _) (lit< tt) }
 
 sub-digits : tie.Need-sub-digits
-sub-digits c = leading-le claimBits (c .args .x)
+sub-digits c = leading-le claimBits _
 
 returns : tie.Need-returns
 returns c = omega (arith, length-rule claimBits (c .before .args .x) (lit< tt) (search needs))

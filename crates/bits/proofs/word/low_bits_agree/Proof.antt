@@ -1,5 +1,4 @@
 -- `bits::word::low_bits_agree`: low bits agree where the remainders by a power of 2 do; a whole word is its own remainder. Assumes nothing.
-use Prim.Native.Nat.{_+_}
 use borrow.Author.Needs.{needs}
 use Rattle.bits.specs.Words.{claimBits}
 use Rattle.bits.proofs.Words.{power-positive, agree-made, agree-whole}
@@ -22,10 +21,10 @@ shl-power : tie.Need-shl-power
 shl-power c = search needs
 
 rem-result : tie.Need-rem-result
-rem-result c = power-positive claimBits (c .before .args .k + 1) (search needs)
+rem-result c = power-positive claimBits _ (search needs)
 
 rem-result-2 : tie.Need-rem-result-2
-rem-result-2 c = power-positive claimBits (c .before .args .k + 1) (search needs)
+rem-result-2 c = power-positive claimBits _ (search needs)
 
 returns-2 : tie.Need-returns-2
 returns-2 c = agree-made claimBits (c .before .args .k) (c .before .args .a) (c .before .args .b) (search needs)

@@ -1,6 +1,5 @@
 -- `bits::word::with_bit`: below the width the two shifts lose nothing, so the code is the definition. Assumes nothing.
-use mathlib.Core.Path.{sym, subst}
-use Prim.Native.Nat.{ℕ, _^_, _<_}
+use mathlib.Core.Path.{sym}
 use borrow.Author.Needs.{needs}
 use Rattle.bits.specs.Words.{claimBits}
 use Rattle.bits.proofs.Words.{word-outside, word-lt, word-taken, word-made}
@@ -23,16 +22,22 @@ shl-result : tie.Need-shl-result
 shl-result c = search needs
 
 sub-result : tie.Need-sub-result
-sub-result c = word-taken claimBits (c .before .before .args .k) (c .before .before .args .x) (c .bit-at .result) (c .before .if1 .left) (c .bit-at .ensures)
+sub-result c =
+    let a = c .before .before .args in
+    word-taken claimBits (a .k) (a .x) (c .bit-at .result) (c .before .if1 .left) (c .bit-at .ensures)
 
 shl-result-2 : tie.Need-shl-result-2
 shl-result-2 c = search needs
 
 returns-2 : tie.Need-returns-2
-returns-2 c = word-made claimBits (c .before .before .args .k) (c .before .before .args .x) (c .bit-at .result) (c .before .before .args .b) (c .before .if1 .left) (c .bit-at .ensures)
+returns-2 c =
+    let a = c .before .before .args in
+    word-made claimBits (a .k) (a .x) (c .bit-at .result) (a .b) (c .before .if1 .left) (c .bit-at .ensures)
 
 add-result : tie.Need-add-result
-add-result c = record { fits = rw (returns-2 c) (word-lt claimBits (c .before .before .args .k) (c .before .before .args .b) (c .before .before .args .x) (c .before .if1 .left) (search needs)) }
+add-result c =
+    let a = c .before .before .args in
+    record { fits = rw (returns-2 c) (word-lt claimBits (a .k) (a .b) (a .x) (search needs)) }
 
 pub with-bit-spec : {M : Type 1} → statement M
 with-bit-spec =
