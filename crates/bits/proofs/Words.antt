@@ -1,17 +1,15 @@
 -- One bit changed, and low bits compared. A bit is changed digit by digit: bit 0 is the lowest digit, and bit k + 1 of n is bit k of its half
 -- (`with-low`, `with-step`). Low bits agree exactly where the remainders by a power of 2 do, since a number is its bits.
 -- Assumes nothing.
-use Prim.Native.Nat.{ℕ, zero, suc, _+_, _-_, _*_, _/_, _%_, _^_, _≤_, _<_, zero-le, suc-le-suc}
-use mathlib.Core.Path.{_≡_, refl, sym, ap, ap₂, _∙_, subst}
+use Prim.Native.Nat.{ℕ, zero, suc, _+_, _*_, _/_, _%_, _^_, _≤_, _<_, zero-le, suc-le-suc}
+use mathlib.Core.Path.{_≡_, refl, sym, ap, _∙_, subst}
 use mathlib.Core.Logic.{⊎-elim}
 use mathlib.Core.Bool.{Bool, true, false, Bool·beq, and-eq-true-iff}
-use native.Mathlib.Nat.{le-refl, le-step, le-suc, le-of-suc-le-suc, not-suc-le-zero, eq-or-lt-of-le, lt-of-lt-of-le, ne-of-gt, zero-lt-suc, mod-lt, mod-eq-of-lt, mul-one, one-mul, mul-assoc, pow-suc}
-use native.Mathlib.Numerals.{add-one}
+use native.Mathlib.Nat.{le-refl, le-step, le-suc, le-of-suc-le-suc, not-suc-le-zero, eq-or-lt-of-le, lt-of-lt-of-le, ne-of-gt, zero-lt-suc, mod-lt, mul-one, mul-assoc, pow-suc}
 use native.Mathlib.Omega.{arith}
 use lib.Arith.{le-zero, digits-div, digits-mod, mod-mul}
 use lib.Dec.{eqb, ltb}
-use lib.Pow.{pow-pos, pow-mono, shl-exact}
-use mir.Val.{boolByte}
+use lib.Pow.{pow-pos}
 use borrow.Author.Tests.{eqb-true, eq-eqb, lt-ltb, le-ltb, ltb-true, ltb-false}
 use Rattle.bits.specs.Digits.{value, bit}
 use Rattle.bits.specs.Words.{withBit, lowAgree, wordWithBit}
@@ -19,7 +17,7 @@ use Rattle.bits.proofs.Digits.{bit-low, bit-step, bit-ext, bit-above, l
 
 -- ---- a number made of a half and a lowest digit
 
-value-lt : (b : Bool) → value b < 2
+pub value-lt : (b : Bool) → value b < 2
 value-lt true = le-refl 2
 value-lt false = le-suc 1
 
@@ -96,23 +94,6 @@ word-same w k b n h = ap (bit k) (word-inside w k b n h) ∙ bit-same k b n
 pub word-other : (w k i : ℕ) (b : Bool) (n : ℕ) → (i ≡ k → ⊥) → bit i (wordWithBit w k b n) ≡ bit i n
 word-other w k i b n d = word-either (λ (x : ℕ). bit i x ≡ bit i n) w k b n (λ h. bit-other k i b n d) refl
 
--- ---- what code on a word of w bits computes: below the width a shift loses nothing
-
-pub shift-exact : (w k a : ℕ) → a < 2 → k < w → a * 2 ^ k % 2 ^ w ≡ a * 2 ^ k
-shift-exact w k a l h = shl-exact 1 k w l (omega arith)
-
-bool-shift : (w k : ℕ) (b : Bool) → k < w → boolByte b * 2 ^ k % 2 ^ w ≡ value b * 2 ^ k
-bool-shift w k true h = shift-exact w k 1 (value-lt true) h
-bool-shift w k false h = shift-exact w k 0 (value-lt false) h
-
-pub word-taken : (w k n : ℕ) (old : Bool) → k < w → old ≡ bit k n → boolByte old * 2 ^ k % 2 ^ w ≤ n
-word-taken w k n old h e = rw (bool-shift w k old h, e) (bit-le k n)
-
-pub word-made : (w k n : ℕ) (old new : Bool) → k < w → old ≡ bit k n
-    → n - boolByte old * 2 ^ k % 2 ^ w + boolByte new * 2 ^ k % 2 ^ w ≡ wordWithBit w k new n
-unfolding withBit
-word-made w k n old new h e = rw (bool-shift w k old h, bool-shift w k new h, e) (sym (word-inside w k new n h))
-
 -- ---- low bits compared
 
 beq-true : (x y : Bool) → Bool·beq x y ≡ true → x ≡ y
@@ -172,19 +153,7 @@ lowAgree-mod k a b =
     let m = 2 ^ suc k in
     same-flag (lowAgree k a b) (eqb (a % m) (b % m))
     (λ e. eq-eqb (a % m) (b % m) (same-mod (suc k) a b (λ i l. agree-bits k a b e i (le-of-suc-le-suc l))))
-    (λ e. bits-agree k a b (λ i l. sym (bit-mod (suc k) i a (suc-le-suc l)) ∙ ap (bit i) (eqb-true (a % m) (b % m) e) ∙ bit-mod (suc k) i b (suc-le-suc l)))
-
--- ---- what code on a word of w bits computes: the remainders by 2 ^ (k + 1), or the whole word where it has no more bits
-
-pub power-exact : (w k : ℕ) → k < w → 1 * 2 ^ k % 2 ^ w ≡ 2 ^ k
-power-exact w k h = shift-exact w k 1 (le-refl 2) h ∙ one-mul (2 ^ k)
-
-pub power-positive : (w k : ℕ) → k < w → 0 < 1 * 2 ^ k % 2 ^ w
-power-positive w k h = rw (power-exact w k h) (pow-pos k)
-
-pub agree-made : (w k a b : ℕ) → k + 1 < w → eqb (a % (1 * 2 ^ (k + 1) % 2 ^ w)) (b % (1 * 2 ^ (k + 1) % 2 ^ w)) ≡ lowAgree k a b
-agree-made w k a b h = rw (power-exact w (k + 1) h, add-one k) (sym (lowAgree-mod k a b))
-
-pub agree-whole : (w k a b : ℕ) → w ≤ suc k → a < 2 ^ w → b < 2 ^ w → eqb a b ≡ lowAgree k a b
-agree-whole w k a b h l m =
-    sym (lowAgree-mod k a b ∙ ap₂ eqb (mod-eq-of-lt (lt-of-lt-of-le l (pow-mono h))) (mod-eq-of-lt (lt-of-lt-of-le m (pow-mono h))))
+    (λ e.
+    bits-agree k a b (λ i l.
+    let h = suc-le-suc l in
+    sym (bit-mod (suc k) i a h) ∙ ap (bit i) (eqb-true (a % m) (b % m) e) ∙ bit-mod (suc k) i b h))

@@ -1,7 +1,7 @@
 -- `bits::word::low_bits_agree`: low bits agree where the remainders by a power of 2 do; a whole word is its own remainder. Assumes nothing.
 use borrow.Author.Needs.{needs}
 use Rattle.bits.specs.Words.{claimBits}
-use Rattle.bits.proofs.Words.{power-positive, agree-made, agree-whole}
+use Rattle.bits.proofs.Machine.{power-positive, agree-made, agree-whole}
 use Rattle.bits.proofs.word.low_bits_agree.Statement.{statement}
 use Rattle.bits.proofs.word.low_bits_agree.Tie as tie
 

@@ -2,7 +2,8 @@
 use mathlib.Core.Path.{sym}
 use borrow.Author.Needs.{needs}
 use Rattle.bits.specs.Words.{claimBits}
-use Rattle.bits.proofs.Words.{word-outside, word-lt, word-taken, word-made}
+use Rattle.bits.proofs.Words.{word-outside, word-lt}
+use Rattle.bits.proofs.Machine.{word-taken, word-made}
 use Rattle.bits.proofs.word.with_bit.Statement.{statement}
 use Rattle.bits.proofs.word.with_bit.Tie as tie
 
