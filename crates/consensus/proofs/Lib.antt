@@ -19,3 +19,6 @@ pub mod Told
 pub mod Longest
 pub mod Agree
 pub mod Bound
+pub mod Supplied
+pub mod Never
+pub mod Demand3
