@@ -5,3 +5,6 @@
 pub mod Basics
 pub mod Invariant
 pub mod Grows
+pub mod Alike
+pub mod Alike1
+pub mod Alike2
