@@ -2,11 +2,11 @@
 -- Assumes nothing.
 use Prim.Native.Nat.{ℕ, zero, suc, _<_, _≤_}
 use mathlib.Core.Path.{_≡_, refl, sym, subst, _∙_, ap}
-use mathlib.Core.Logic.{_⊎_, inl, inr}
+use mathlib.Core.Logic.{⊎-elim}
 use mathlib.Core.Bool.{Bool, true, false, cond, not, _&&_, _||_, Bool·beq, true≢false}
 use mathlib.Core.Option.{Option, none, some}
 use native.Mathlib.Omega.{arith}
-use native.Mathlib.Nat.{le-refl, le-step}
+use native.Mathlib.Nat.{le-refl, le-step, not-suc-le-zero, eq-or-lt-of-le, le-of-suc-le-suc}
 use lib.Dec.{eqb, ltb}
 use borrow.Author.Tests.{eqb-true, eqb-false, eq-eqb, ne-eqb, ltb-true}
 use Rattle.consensus.specs.State.{update}
@@ -35,8 +35,8 @@ pub update-other : {A : Type 0} (f : ℕ → A) (i : ℕ) (x : A) (j : ℕ) → 
 update-other f i x j ne = update-ind (λ y. y ≡ f j) f i x j (λ e. absurd (ne e)) (λ ne. refl)
 
 -- an accepted event met none of the tests
-pub refused-not : (t : Bool) (m rest : ℕ) → (m ≡ 0 → ⊥) → refuse t m rest ≡ 0 → (t ≡ false) × (rest ≡ 0)
-refused-not true m rest ne e = absurd (ne e)
+pub refused-not : (t : Bool) (m rest : ℕ) → eqb m 0 ≡ false → refuse t m rest ≡ 0 → (t ≡ false) × (rest ≡ 0)
+refused-not true m rest ne e = absurd (eqb-false m 0 ne e)
 refused-not false m rest ne e = (refl, e)
 
 pub not-false→true : (b : Bool) → not b ≡ false → b ≡ true
@@ -69,3 +69,14 @@ any-found (suc n) f e = by-bool (f n) (λ p. (n, le-refl (suc n), p)) (λ p. wid
 
     widen : (i : ℕ) × (i < n) × (f i ≡ true) → (i : ℕ) × (i < suc n) × (f i ≡ true)
     widen t = (t .0, le-step (t .1), t .2)
+
+-- and none found
+pub any-none : (n : ℕ) (f : ℕ → Bool) → any-below n f ≡ false → (i : ℕ) → i < n → f i ≡ false
+unfolding any-below
+any-none zero f e i l = absurd (not-suc-le-zero l)
+any-none (suc n) f e i l =
+    let both = or-false (f n) (any-below n f) e in
+    ⊎-elim (λ q. ap f q ∙ both .0) (λ m. any-none n f (both .1) i m) (eq-or-lt-of-le (le-of-suc-le-suc l))
+
+pub any-true : (n : ℕ) (f : ℕ → Bool) (i : ℕ) → i < n → f i ≡ true → any-below n f ≡ true
+any-true n f i l e = by-bool (any-below n f) (λ p. p) (λ p. no-clash (f i) e (any-none n f p i l))

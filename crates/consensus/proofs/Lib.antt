@@ -2,9 +2,23 @@
 --     Basics       cases on Bools, updates, refusals
 --     Invariant    what holds of every state reached from an opening
 --     Grows        what all can see only grows, and the invariant's parts grow with it
+--     Own          an event that changes one station's own part keeps the invariant
+--     Spelling     the facts about bits, words and answers that a STEP needs
+--     Steps        each STEP keeps the invariant
+--     Reached      every event keeps the invariant, so it holds of every state reached
 pub mod Basics
 pub mod Invariant
 pub mod Grows
+pub mod Own
+pub mod Spelling
+pub mod Steps
+pub mod Reached
+pub mod Station
+pub mod Accepted
+-- The figures:
+--     Alike        what a STEP does, in the figures' terms
+--     Alike1       a STEP by station does what an event of figure 1 does
+--     Alike2       a STEP by claim does what an event of figure 2 does
 pub mod Alike
 pub mod Alike1
 pub mod Alike2
