@@ -4,8 +4,18 @@
 --     Rules       what each event is refused for, and what it does (document 01)
 --     Words       the words of demand 3, read off a list of events
 --     Demand3     demand 3 about the play
+--     Figure      one process of a figure: a line, and an event made of lines
+--     Figure1     the paper's figure 1, line by line
+--     Figure2     the paper's figure 2, line by line
+--     System      processes that may crash, broadcast and binary consensus instances; the runs of a figure
+--     Demand2     demand 2 about the play
 pub mod Events
 pub mod State
 pub mod Rules
 pub mod Words
 pub mod Demand3
+pub mod Figure
+pub mod Figure1
+pub mod Figure2
+pub mod System
+pub mod Demand2
