@@ -1,4 +1,6 @@
--- Proofs about the play.
+-- Proofs about the play. First, computed: the lists that tell the four false readings apart.
+pub mod Examples
+-- What holds of every state reached:
 --     Basics       cases on Bools, updates, refusals
 --     Invariant    what holds of every state reached from an opening
 --     Grows        what all can see only grows, and the invariant's parts grow with it
@@ -18,7 +20,7 @@ pub mod Station
 -- Demand 3:
 --     Accepted     an accepted event is what the state shows
 --     Told         what the list tells of a station is what its stage says
---     Longest      rounds stay below K and below a claim's width
+--     Longest      rounds stay below K
 --     Agree        agreement, validity, the cost in ballots
 --     Bound        what each step spends
 --     Supplied     the bound on supplied steps
