@@ -50,16 +50,16 @@ module _ (o : Opening) (st : State) (inv : Inv o st) (small : Small st) where
       let above : suc k ≤ far .0 = far .1 in
       omega arith
 
-  round-below : o .rule ≡ byClaim → (k : ℕ) → Unfinished o st k → k < claimBits
+  pub round-below : o .rule ≡ byClaim → (k : ℕ) → Unfinished o st k → k < claimBits
   round-below r zero u = lit< tt
   round-below r (suc k) u = finish-below r k (u k (le-refl (suc k)))
 
   -- a bit is cast only in a ballot that there is
-  bit-below : (r : Rule) → o .rule ≡ r → (k : ℕ) → Round-by o r st k → bit-ballot-by r k < ballotsOf r (rounds o)
+  pub bit-below : (r : Rule) → o .rule ≡ r → (k : ℕ) → Round-by o r st k → bit-ballot-by r k < ballotsOf r (rounds o)
   bit-below byStation e k x = x
   bit-below byClaim e k x = let h = round-below e k x in omega arith
 
-  finish-ballot-below : o .rule ≡ byClaim → (k : ℕ) → Unfinished o st k → finish-ballot k < ballots o
+  pub finish-ballot-below : o .rule ≡ byClaim → (k : ℕ) → Unfinished o st k → finish-ballot k < ballots o
   finish-ballot-below r k u =
       let h = round-below r k u in
       subst (λ (q : Rule). finish-ballot k < ballotsOf q (rounds o)) (sym r) (omega arith)
