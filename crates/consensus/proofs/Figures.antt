@@ -6,12 +6,12 @@ use mathlib.Core.Bool.{Bool, true, false, cond}
 use mathlib.Core.Option.{Option, none, some, Option·some-injective, Option·none-ne-some}
 use lib.Dec.{eqb}
 use borrow.Author.Tests.{ne-eqb}
-use Rattle.consensus.specs.Events.{Event, History, start, _▷_, Rule, byStation, byClaim, Opening, Accepts}
+use Rattle.consensus.specs.Events.{Event, claim, deliver, step, lose, answer, History, start, _▷_, Rule, byStation, byClaim, Opening, Accepts}
 use Rattle.consensus.specs.State.{State, idle}
 use Rattle.consensus.specs.Rules.{number, effect, next, after}
 use Rattle.consensus.specs.Words.{Claims-fit}
 use Rattle.consensus.specs.Figure.{event}
-use Rattle.consensus.specs.System.{stay, takes, run}
+use Rattle.consensus.specs.System.{Label, broadcast, delivery, advance, crash, decide, label-of, stay, takes, run}
 use Rattle.consensus.specs.Demand2.{figure-by, figure-of, place-by, Figure-state, Shows, Step, figure-after, Demand2-of, Demand2}
 use Rattle.consensus.proofs.Reached.{reached}
 use Rattle.consensus.proofs.Station.{next-accepted}
@@ -76,5 +76,17 @@ module _ (o : Opening) (ok : Accepts o) where
     allowed = λ e y t. allowed-step o (after o h) (figure-after o h) e y t (same-verdict h fit e);
   }
 
+every-label : (l : Label) → (e : Event) × (label-of e ≡ some l)
+every-label (broadcast s v) = (claim s v, refl)
+every-label (delivery t s) = (deliver t s, refl)
+every-label (advance s) = (step s, refl)
+every-label (crash s) = (lose s, refl)
+every-label (decide b true) = (answer b 1, refl)
+every-label (decide b false) = (answer b 0, refl)
+
 pub demand2 : Demand2
-demand2 = record { holds = λ o ok h fit. demand2-of o ok h fit }
+demand2 = record {
+  holds = λ o ok h fit. demand2-of o ok h fit;
+  every-label = every-label;
+  one-outcome = λ o x y z e p q. Option·some-injective y z (sym p ∙ q);
+}

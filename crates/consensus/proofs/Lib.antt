@@ -22,9 +22,15 @@ pub mod Accepted
 --     Bounds       nothing is cast past the last ballot, and 42 is never met
 --     Shown        each event has the same verdict in the play and in the figure
 --     Figures      demand 2 about the play
+--     Lawful       what both figures' lines have in common
+--     Gather       single lines gathered into events
+--     SingleLines  a run of single lines ends where the play ends
 pub mod Alike
 pub mod Alike1
 pub mod Alike2
 pub mod Bounds
 pub mod Shown
 pub mod Figures
+pub mod Lawful
+pub mod Gather
+pub mod SingleLines

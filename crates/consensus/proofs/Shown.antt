@@ -24,7 +24,7 @@ use Rattle.consensus.proofs.Alike2.{alike-2}
 use Rattle.consensus.proofs.Bounds.{Small, ballot-below, not-last}
 
 -- two functions updated at the same place are related at each place if they were, and the new values are
-pair-ind : {A B : Type 0} (R : A → B → Type 0) (f : ℕ → A) (g : ℕ → B) (s : ℕ) (a : A) (b : B) (i : ℕ)
+pub pair-ind : {A B : Type 0} (R : A → B → Type 0) (f : ℕ → A) (g : ℕ → B) (s : ℕ) (a : A) (b : B) (i : ℕ)
     → (i ≡ s → R a b) → R (f i) (g i) → R (update f s a i) (update g s b i)
 unfolding update
 pair-ind R f g s a b i new old = go (eqb i s) (eqb-true i s)

@@ -11,7 +11,7 @@ use Rattle.consensus.specs.Words.{Claims-fit}
 use Rattle.consensus.specs.Figure.{Figure, event}
 use Rattle.consensus.specs.Figure1 as one
 use Rattle.consensus.specs.Figure2 as two
-use Rattle.consensus.specs.System.{System, takes, run}
+use Rattle.consensus.specs.System.{System, Label, label-of, takes, run}
 
 abbrev pub figure-by : Rule → Figure
 figure-by byStation = one.figure1
@@ -49,7 +49,7 @@ module _ (o : Opening) where
   abbrev pub Figure-state : Type 0
   Figure-state = System (figure-of o .Place)
 
-  -- the figure's state x shows the play's state st
+  -- the figure's state x shows the play's state st; a number from n on names no process and no station, and nothing happens there
   pub record Shows (st : State) (x : Figure-state) : Type 0 where
     pub place : (s : ℕ) → place-by (o .rule) (st .station s .stage) ≡ some (x .process s .place)
     -- prop[t] at s is the claim of t where s holds it, and ⊥ elsewhere; what was sent is what was put in
@@ -78,3 +78,6 @@ module _ (o : Opening) where
 -- Demand 2 about the play: every accepted opening, both rules, every list of events whose claims are claims.
 pub record Demand2 : Type 0 where
   pub holds : (o : Opening) → Accepts o → (h : History) → Claims-fit h → Demand2-of o h
+  -- the events leave out nothing that may happen, and a labelled step has one outcome
+  pub every-label : (l : Label) → (e : Event) × (label-of e ≡ some l)
+  pub one-outcome : (o : Opening) (x y z : Figure-state o) (e : Event) → Step o x e y → Step o x e z → y ≡ z

@@ -9,6 +9,7 @@
 --     Figure2     the paper's figure 2, line by line
 --     System      processes that may crash, broadcast and binary consensus instances; the runs of a figure
 --     Demand2     demand 2 about the play
+--     Lines       runs of single printed lines end where the play ends
 pub mod Events
 pub mod State
 pub mod Rules
@@ -19,3 +20,4 @@ pub mod Figure1
 pub mod Figure2
 pub mod System
 pub mod Demand2
+pub mod Lines

@@ -33,6 +33,10 @@ pub data Label : Type 0 where
   crash : ℕ → Label
   decide : ℕ → Bool → Label
 
+-- what process i of n sees
+abbrev pub view : {P : Type 0} → ℕ → System P → ℕ → View
+view n x i = record { self = i; count = n; prop = x .process i .prop; decided = x .decision }
+
 abbrev pub provided : {A : Type 0} → Bool → Option A → Option A
 provided true x = x
 provided false x = none
@@ -123,7 +127,7 @@ module _ {P : Type 0} (n : ℕ) (does : View → P → Does P) where
   live x i = ltb i n && not (x .process i .crashed)
 
   abbrev pub done : System P → ℕ → Does P
-  done x i = does (record { self = i; count = n; prop = x .process i .prop; decided = x .decision }) (x .process i .place)
+  done x i = does (view n x i) (x .process i .place)
 
   -- The labelled step: it computes the state after, so a label has one outcome. A crashed process does nothing, but its broadcast may
   -- still be delivered and its proposals count. A broadcast is delivered at most once to each process, and only after it was made.
