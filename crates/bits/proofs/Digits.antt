@@ -1,12 +1,13 @@
 -- A number by its binary digits. All of it follows from one step: the lowest digit of n is n % 2, and the digits above it are those of
--- n / 2 (`bit-step`, `length-step`). So a number is determined by its bits, and its length is the least k above 0 with n < 2 ^ k.
+-- n / 2 (`bit-step`, `length-above`). So a number is determined by its bits, and its length is the least k above 0 with n < 2 ^ k.
 -- Assumes nothing.
 use Prim.Native.Nat.{ℕ, zero, suc, _+_, _-_, _*_, _/_, _%_, _^_, _≤_, _<_, max, zero-le, suc-le-suc}
 use mathlib.Core.Path.{_≡_, refl, sym, ap, ap₂, _∙_, subst}
 use mathlib.Core.Logic.{_≢_}
 use mathlib.Core.Bool.{Bool, true, false, false≢true}
 use mathlib.Core.List.{List, [], _∷_}
-use native.Mathlib.Nat.{le-refl, le-trans, le-antisymm, le-of-eq, le-max-left, le-max-right, max-le, le-add-right, le-add-left, not-suc-le-zero, le-of-suc-le-suc, lt-of-lt-of-le, lt-of-not-le, zero-lt-suc, mod-lt, div-one, div-eq-of-lt, div-add-mod', div-div-eq-div-mul, div-lt-iff-lt-mul, pow-suc, pow-succ', eq-zero-or-pos}
+use native.Mathlib.Nat.{le-antisymm, le-of-eq, le-max-left, le-max-right, max-le, le-add-right, le-add-left, not-suc-le-zero, le-of-suc-le-suc}
+use native.Mathlib.Nat.{lt-of-lt-of-le, lt-of-not-le, zero-lt-suc, div-one, div-eq-of-lt, div-add-mod', div-div-eq-div-mul, div-lt-iff-lt-mul, pow-suc, pow-succ'}
 use native.Mathlib.Omega.{arith}
 use lib.Arith.{le-zero, half-le, bin-ind}
 use lib.Count.{leadingZeros, leading-length}

@@ -1,7 +1,13 @@
 -- Laws about the definitions of specs/ that belong to no one function.
 --     Digits    a number by its bits, and its length
 --     Words     one bit changed, low bits compared
+--     Machine   what code on a machine word computes
+--     Masks     sets of stations
 --     Log       ceil(log2 n)
+--     Examples  the numbers that document 01 writes out
 pub mod Digits
 pub mod Words
+pub mod Machine
+pub mod Masks
 pub mod Log
+pub mod Examples

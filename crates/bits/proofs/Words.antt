@@ -1,11 +1,11 @@
 -- One bit changed, and low bits compared. A bit is changed digit by digit: bit 0 is the lowest digit, and bit k + 1 of n is bit k of its half
 -- (`with-low`, `with-step`). Low bits agree exactly where the remainders by a power of 2 do, since a number is its bits.
 -- Assumes nothing.
-use Prim.Native.Nat.{ℕ, zero, suc, _+_, _-_, _*_, _/_, _%_, _^_, _≤_, _<_, zero-le, suc-le-suc}
-use mathlib.Core.Path.{_≡_, refl, sym, ap, ap₂, _∙_, subst}
+use Prim.Native.Nat.{ℕ, zero, suc, _+_, _*_, _/_, _%_, _^_, _≤_, _<_, zero-le, suc-le-suc}
+use mathlib.Core.Path.{_≡_, refl, sym, ap, _∙_, subst}
 use mathlib.Core.Logic.{⊎-elim}
 use mathlib.Core.Bool.{Bool, true, false, Bool·beq, and-eq-true-iff}
-use native.Mathlib.Nat.{le-refl, le-step, le-suc, le-of-suc-le-suc, not-suc-le-zero, eq-or-lt-of-le, lt-of-lt-of-le, ne-of-gt, zero-lt-suc, mod-lt, mod-eq-of-lt, mul-one, mul-assoc, pow-suc}
+use native.Mathlib.Nat.{le-refl, le-step, le-suc, le-of-suc-le-suc, not-suc-le-zero, eq-or-lt-of-le, lt-of-lt-of-le, ne-of-gt, zero-lt-suc, mod-lt, mul-one, mul-assoc, pow-suc}
 use native.Mathlib.Omega.{arith}
 use lib.Arith.{le-zero, digits-div, digits-mod, mod-mul}
 use lib.Dec.{eqb, ltb}
@@ -17,7 +17,7 @@ use Rattle.bits.proofs.Digits.{bit-low, bit-step, bit-ext, bit-above, l
 
 -- ---- a number made of a half and a lowest digit
 
-value-lt : (b : Bool) → value b < 2
+pub value-lt : (b : Bool) → value b < 2
 value-lt true = le-refl 2
 value-lt false = le-suc 1
 
@@ -63,19 +63,6 @@ bit-other (suc k) (suc i) b n d =
     ap (bit (suc i)) (with-step k b n) ∙ high-made i (withBit k b (n / 2)) (bit 0 n)
     ∙ bit-other k i b (n / 2) (λ e. d (ap suc e)) ∙ sym (bit-step i n)
 
--- a bit that is changed adds or takes away its power of 2, and one that stands changes nothing
-pub with-kept : (k n : ℕ) → withBit k (bit k n) n ≡ n
-unfolding withBit
-with-kept k n = omega (arith, bit-le k n)
-
-pub with-set : (k n : ℕ) → bit k n ≡ false → withBit k true n ≡ n + 2 ^ k
-unfolding withBit
-with-set k n e = rw e (omega arith)
-
-pub with-cleared : (k n : ℕ) → bit k n ≡ true → withBit k false n ≡ n - 2 ^ k
-unfolding withBit
-with-cleared k n e = rw e (omega arith)
-
 -- ---- words of a width
 
 pub word-inside : (w k : ℕ) (b : Bool) (n : ℕ) → k < w → wordWithBit w k b n ≡ withBit k b n
@@ -89,6 +76,23 @@ word-outside w k b n h = rw (le-ltb k w h)
 pub with-lt : (w k : ℕ) (b : Bool) (n : ℕ) → k < w → n < 2 ^ w → withBit k b n < 2 ^ w
 with-lt w k b n h l =
     lt-of-bits w (withBit k b n) (λ i g. bit-other k i b n (ne-of-gt (lt-of-lt-of-le h g)) ∙ bit-above w n l i g)
+
+-- what holds of both, changed and as it was, holds of the word
+word-either : (P : ℕ → Type 0) (w k : ℕ) (b : Bool) (n : ℕ) → (k < w → P (withBit k b n)) → P n → P (wordWithBit w k b n)
+word-either P w k b n f p = go (ltb k w) refl
+  where
+    go : (t : Bool) → ltb k w ≡ t → P (wordWithBit w k b n)
+    go true e = let h = ltb-true k w e in subst P (sym (word-inside w k b n h)) (f h)
+    go false e = subst P (sym (word-outside w k b n (ltb-false k w e))) p
+
+pub word-lt : (w k : ℕ) (b : Bool) (n : ℕ) → n < 2 ^ w → wordWithBit w k b n < 2 ^ w
+word-lt w k b n l = word-either (λ (x : ℕ). x < 2 ^ w) w k b n (λ h. with-lt w k b n h l) l
+
+pub word-same : (w k : ℕ) (b : Bool) (n : ℕ) → k < w → bit k (wordWithBit w k b n) ≡ b
+word-same w k b n h = ap (bit k) (word-inside w k b n h) ∙ bit-same k b n
+
+pub word-other : (w k i : ℕ) (b : Bool) (n : ℕ) → (i ≡ k → ⊥) → bit i (wordWithBit w k b n) ≡ bit i n
+word-other w k i b n d = word-either (λ (x : ℕ). bit i x ≡ bit i n) w k b n (λ h. bit-other k i b n d) refl
 
 -- ---- low bits compared
 
@@ -149,8 +153,7 @@ lowAgree-mod k a b =
     let m = 2 ^ suc k in
     same-flag (lowAgree k a b) (eqb (a % m) (b % m))
     (λ e. eq-eqb (a % m) (b % m) (same-mod (suc k) a b (λ i l. agree-bits k a b e i (le-of-suc-le-suc l))))
-    (λ e. bits-agree k a b (λ i l. sym (bit-mod (suc k) i a (suc-le-suc l)) ∙ ap (bit i) (eqb-true (a % m) (b % m) e) ∙ bit-mod (suc k) i b (suc-le-suc l)))
-
--- numbers of w bits that agree in as many low bits are equal
-pub lowAgree-whole : (k a b : ℕ) → a < 2 ^ suc k → b < 2 ^ suc k → lowAgree k a b ≡ eqb a b
-lowAgree-whole k a b h l = lowAgree-mod k a b ∙ ap₂ eqb (mod-eq-of-lt h) (mod-eq-of-lt l)
+    (λ e.
+    bits-agree k a b (λ i l.
+    let h = suc-le-suc l in
+    sym (bit-mod (suc k) i a h) ∙ ap (bit i) (eqb-true (a % m) (b % m) e) ∙ bit-mod (suc k) i b h))

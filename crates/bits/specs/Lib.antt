@@ -2,6 +2,8 @@
 --     Digits    the binary digits of a number, its length, its bits
 --     Words     one bit changed, low bits compared; words of a fixed width and masks of stations
 --     Log       ceil(log2 n)
+--     Examples  the numbers that document 01 writes out
 pub mod Digits
 pub mod Words
 pub mod Log
+pub mod Examples

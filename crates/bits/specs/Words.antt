@@ -1,7 +1,7 @@
 -- One bit changed, and the low bits of two numbers compared (paper 000, section 3: writing j[k], and j[k..0]);
 -- the same for words of a fixed width, and masks of stations. Assumes nothing.
 use Prim.Native.Nat.{ℕ, zero, suc, _+_, _-_, _*_, _^_}
-use mathlib.Core.Bool.{Bool, true, false, _&&_, Bool·beq, cond}
+use mathlib.Core.Bool.{Bool, true, _&&_, Bool·beq, cond}
 use lib.Dec.{ltb}
 use Rattle.bits.specs.Digits.{value, bit}
 

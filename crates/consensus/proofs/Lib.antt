@@ -6,6 +6,7 @@
 --     Spelling     the facts about bits, words and answers that a STEP needs
 --     Steps        each STEP keeps the invariant
 --     Reached      every event keeps the invariant, so it holds of every state reached
+--     Station      what one event does to one station
 pub mod Basics
 pub mod Invariant
 pub mod Grows
@@ -14,7 +15,23 @@ pub mod Spelling
 pub mod Steps
 pub mod Reached
 pub mod Station
+-- Demand 3:
+--     Accepted     an accepted event is what the state shows
+--     Told         what the list tells of a station is what its stage says
+--     Longest      rounds stay below K and below a claim's width
+--     Agree        agreement, validity, the cost in ballots
+--     Bound        what each step spends
+--     Supplied     the bound on supplied steps
+--     Never        a supplied step is never refused, and no event meets 42
+--     Demand3      demand 3 about the play
 pub mod Accepted
+pub mod Told
+pub mod Longest
+pub mod Agree
+pub mod Bound
+pub mod Supplied
+pub mod Never
+pub mod Demand3
 -- The figures:
 --     Alike        what a STEP does, in the figures' terms
 --     Alike1       a STEP by station does what an event of figure 1 does

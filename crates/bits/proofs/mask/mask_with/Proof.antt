@@ -1,0 +1,26 @@
+-- `bits::mask::mask_with`: the room of a mask is within a word. Assumes nothing.
+use mathlib.Core.Path.{sym, _∙_}
+use mathlib.Core.Bool.{true}
+use native.Mathlib.Omega.{arith}
+use borrow.Author.Needs.{needs}
+use Rattle.bits.specs.Words.{claimBits, maskBits, insert}
+use Rattle.bits.proofs.Words.{word-inside, word-outside}
+use Rattle.bits.proofs.mask.mask_with.Statement.{statement}
+use Rattle.bits.proofs.mask.mask_with.Tie as tie
+
+returns : tie.Need-returns
+unfolding insert
+returns c = sym (word-outside maskBits (c .before .args .s) true (c .before .args .mask) (c .if1 .taken))
+
+with-bit-requires : tie.Need-with-bit-requires
+with-bit-requires c κs = search needs
+
+returns-2 : tie.Need-returns-2
+unfolding insert
+returns-2 c =
+    let a = c .before .before .args in
+    c .with-bit .ensures ∙ word-inside claimBits (a .s) true (a .mask) (omega arith)
+    ∙ sym (word-inside maskBits (a .s) true (a .mask) (omega arith))
+
+pub mask-with-spec : {M : Type 1} → statement M
+mask-with-spec = tie.close (tie.spec returns with-bit-requires returns-2)

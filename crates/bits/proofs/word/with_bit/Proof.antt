@@ -1,0 +1,55 @@
+-- `bits::word::with_bit`: below the width the two shifts lose nothing, so the code is the definition. Assumes nothing.
+use mathlib.Core.Path.{sym}
+use borrow.Author.Needs.{needs}
+use Rattle.bits.specs.Words.{claimBits}
+use Rattle.bits.proofs.Words.{word-outside, word-lt}
+use Rattle.bits.proofs.Machine.{word-taken, word-made}
+use Rattle.bits.proofs.word.with_bit.Statement.{statement}
+use Rattle.bits.proofs.word.with_bit.Tie as tie
+
+returns : tie.Need-returns
+returns c = sym (word-outside claimBits (c .before .args .k) (c .before .args .b) (c .before .args .x) (c .if1 .taken))
+
+bit-at-requires : tie.Need-bit-at-requires
+bit-at-requires c κs = search needs
+
+cast-old : tie.Need-cast-old
+cast-old c = search needs
+
+cast-new : tie.Need-cast-new
+cast-new c = search needs
+
+shl-result : tie.Need-shl-result
+shl-result c = search needs
+
+sub-result : tie.Need-sub-result
+sub-result c =
+    let a = c .before .before .args in
+    word-taken claimBits (a .k) (a .x) (c .bit-at .result) (c .before .if1 .left) (c .bit-at .ensures)
+
+shl-result-2 : tie.Need-shl-result-2
+shl-result-2 c = search needs
+
+returns-2 : tie.Need-returns-2
+returns-2 c =
+    let a = c .before .before .args in
+    word-made claimBits (a .k) (a .x) (c .bit-at .result) (a .b) (c .before .if1 .left) (c .bit-at .ensures)
+
+add-result : tie.Need-add-result
+add-result c =
+    let a = c .before .before .args in
+    record { fits = rw (returns-2 c) (word-lt claimBits (a .k) (a .b) (a .x) (search needs)) }
+
+pub with-bit-spec : {M : Type 1} → statement M
+with-bit-spec =
+    tie.close
+    (tie.spec
+    returns
+    bit-at-requires
+    cast-old
+    cast-new
+    shl-result
+    sub-result
+    shl-result-2
+    add-result
+    returns-2)

@@ -1,0 +1,53 @@
+// A claim as a word: its length, one bit of it, one bit changed, and low bits compared.
+ghost use mathlib.Core.Path.{_≡_};
+ghost use Rattle.bits.specs.Digits.{bit, bitLength};
+ghost use Rattle.bits.specs.Words.{claimBits, wordWithBit, lowAgree};
+
+// The word that holds a claim. Its width is said here and, for the proofs, by `claimBits` of specs/Words.antt.
+pub type Word = u32;
+
+pub const WORD_BITS: u8 = 32;
+
+// How many binary digits x has, and 1 for 0.
+pub fn bit_length(x: Word) -> u8
+    ensures { λ r. ⌜ r ≡ bitLength x ⌝ }
+{
+    let digits = WORD_BITS - u32::leading_zeros(x) as u8;
+    if digits == 0 {
+        return 1;
+    }
+    digits
+}
+
+// Bit k of x. A word has no bit at or past its width: there it is 0.
+pub fn bit_at(x: Word, k: u8) -> bool
+    ensures { λ r. ⌜ r ≡ bit k x ⌝ }
+{
+    if WORD_BITS <= k {
+        return false;
+    }
+    (x >> k) % 2 == 1
+}
+
+// x with bit k made b. At or past the width nothing changes.
+pub fn with_bit(x: Word, k: u8, b: bool) -> Word
+    ensures { λ r. ⌜ r ≡ wordWithBit claimBits k b x ⌝ }
+{
+    if WORD_BITS <= k {
+        return x;
+    }
+    let old = bit_at(x, k) as Word;
+    let new = b as Word;
+    x - (old << k) + (new << k)
+}
+
+// Whether the low k + 1 bits of a and b agree: all bits, where the word has no more.
+pub fn low_bits_agree(a: Word, b: Word, k: u8) -> bool
+    ensures { λ r. ⌜ r ≡ lowAgree k a b ⌝ }
+{
+    if WORD_BITS - 1 <= k {
+        return a == b;
+    }
+    let power: Word = 1 << (k + 1);
+    a % power == b % power
+}
