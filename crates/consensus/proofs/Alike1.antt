@@ -54,19 +54,13 @@ module _ (n : ℕ) (st : State) (s : ℕ) where
   is d e = Alike place-1 d e
 
   -- line 12: prop[l] is the claim of j where l equals j
-  end-1 : (m v k : ℕ) → is (goes (decided v k)) (onward figure1 m x (goes (returned v)))
+  end-1 : (m v k : ℕ) (w : Option ℕ) → some v ≡ w → is (goes (decided v k)) (onward figure1 m x (goes (returned w)))
   unfolding onward
-  end-1 zero v k = both-go refl
-  end-1 (suc m) v k = both-go refl
+  end-1 zero v k w e = both-go (ap (λ (u : Option ℕ). some (returned u)) e)
+  end-1 (suc m) v k w e = both-go (ap (λ (u : Option ℕ). some (returned u)) e)
 
-  return-1 : (m j l k : ℕ) → l ≡ j → held st s j ≡ true
-      → is (goes (decided (claim-of st j) k)) (onward figure1 m x (await (x .prop l) (λ w. goes (returned w))))
-  return-1 m j l k e h =
-      subst (λ (i : ℕ). Returns (cond (held st s i) (some (claim-of st i)) none)) (sym e)
-      (subst (λ (b : Bool). Returns (cond b (some (claim-of st j)) none)) (sym h) (end-1 m (claim-of st j) k))
-    where
-      Returns : Option ℕ → Type 0
-      Returns v = is (goes (decided (claim-of st j) k)) (onward figure1 m x (await v (λ w. goes (returned w))))
+  prop-of : (j l : ℕ) → l ≡ j → held st s j ≡ true → some (claim-of st j) ≡ x .prop l
+  prop-of j l e h = sym (ap (x .prop) e ∙ ap (λ (b : Bool). cond b (some (claim-of st j)) none) h)
 
   -- line 7 on to 8, or on to 12 where no round is left
   for-1 : (m : ℕ) (last more : Bool) (j i k l : ℕ) → (more ≡ true → last ≡ false) → (more ≡ false → (last ≡ true) × (l ≡ j)) → held st s j ≡ true
@@ -75,7 +69,7 @@ module _ (n : ℕ) (st : State) (s : ℕ) where
   for-1 m last true j i k l on off h = subst (λ (b : Bool). is (goes (cond b (decided (claim-of st j) i) (voting j k l))) (goes (line8 j k l))) (sym (on refl)) (both-go refl)
   for-1 m last false j i k l on off h =
       subst (λ (b : Bool). is (goes (cond b (decided (claim-of st j) i) (voting j k l))) (onward figure1 m x (line x (line12 l)))) (sym (off refl .0))
-      (return-1 m j l i (off refl .1) h)
+      (end-1 m (claim-of st j) i (x .prop l) (prop-of j l (off refl .1) h))
 
   -- lines 5 and 6
   wait-1 : (b : Bool) → b ≡ held st s s → (b ≡ true → s < n) → 1 ≤ n
@@ -121,4 +115,4 @@ module _ (n : ℕ) (st : State) (s : ℕ) where
   alike-1 pos (seeking j k l) p mine ok e = stands (line9 j k l) p _ e (until-1 (held st s ((j + 1) % n)) (lowAgree k l ((j + 1) % n)) ((j + 1) % n) k l refl refl (ok .round) (ok .word .above) (mod-lt _ pos))
   alike-1 pos (finish-voting j k d) p mine ok e = absurd (Option·none-ne-some p e)
   alike-1 pos (finish-awaiting j k d) p mine ok e = absurd (Option·none-ne-some p e)
-  alike-1 pos (decided v k) p mine ok e = stands (returned v) p _ e both-blocked
+  alike-1 pos (decided v k) p mine ok e = stands (returned (some v)) p _ e both-blocked

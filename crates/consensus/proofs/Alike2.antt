@@ -11,7 +11,7 @@ use Rattle.consensus.specs.Events.{Opening, byClaim}
 use Rattle.consensus.specs.State.{Stage, idle, waiting, voting, awaiting, seeking, finish-voting, finish-awaiting, decided, State, claim-of, held}
 use Rattle.consensus.specs.Rules.{finished}
 use Rattle.consensus.specs.Figure.{View, Does, blocked, goes, broadcasts, proposes, await, onward, event}
-use Rattle.consensus.specs.Figure2.{Place, line4, line5, line6, line7, line8, in8, line9, line10, line11, line12, in12, line13, returned, fits, line, figure2}
+use Rattle.consensus.specs.Figure2.{Place, line4, line5, line6, line7, line8, in8, line9, line10, line11, line12, in12, line13, returned, fits, equals, line, figure2}
 use Rattle.consensus.specs.Demand2.{place-2}
 use Rattle.consensus.proofs.Invariant.{Spelling, Stage-ok}
 use Rattle.consensus.proofs.Alike.{Alike, both-blocked, both-go, both-broadcast, both-propose, play-view, does-at}
@@ -55,10 +55,10 @@ module _ (n : ℕ) (st : State) (s : ℕ) where
   until-2 false v j k d = until-go false j k d
 
   finish-2 : (b : Bool) (v j k d : ℕ) → b ≡ true
-      → is (proposes (2 * k + 1) (eqb d v) (finish-awaiting j k d)) (onward figure2 4 x (await (cond b (some v) none) (λ w. goes (line12 (eqb d w) j k d))))
+      → is (proposes (2 * k + 1) (eqb d v) (finish-awaiting j k d)) (onward figure2 4 x (goes (line12 (equals d (cond b (some v) none)) j k d)))
   unfolding onward line
   finish-2 b v j k d e =
-      subst (λ (c : Bool). is (proposes (2 * k + 1) (eqb d v) (finish-awaiting j k d)) (onward figure2 4 x (await (cond c (some v) none) (λ w. goes (line12 (eqb d w) j k d))))) (sym e)
+      subst (λ (c : Bool). is (proposes (2 * k + 1) (eqb d v) (finish-awaiting j k d)) (onward figure2 4 x (goes (line12 (equals d (cond c (some v) none)) j k d)))) (sym e)
       (both-propose refl)
 
   return-12 : (a : Option Bool) (j k d : ℕ)

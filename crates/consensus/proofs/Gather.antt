@@ -17,7 +17,7 @@ use Rattle.consensus.specs.Figure.{View, Does, blocked, goes, broadcasts
 use Rattle.consensus.specs.System.{Process, System, Label, decide, view, provided, moved, sending, proposing, storing, crashing, broadcast-by, advance-by, deliver-by, with-process, stay, then, live, done, happens, takes}
 use Rattle.consensus.specs.Lines.{Inside, outset, onto, put-back}
 use Rattle.consensus.proofs.Basics.{by-bool, cond-ind, no-clash, and-true, update-ind, update-same}
-use Rattle.consensus.proofs.Lawful.{More, seen, Falls, Keeps, Silent, Lawful}
+use Rattle.consensus.proofs.Lawful.{More, seen, Falls, Keeps, Silent, Moving, Lawful}
 use Rattle.consensus.proofs.Shown.{pair-ind}
 
 -- ---- one process
@@ -51,7 +51,13 @@ module _ (F : Figure) where
   unfolding onward
   onward-on m x q n = ap (λ (b : Bool). cond b (goes q) (onward F m x (F .line x q))) n
 
-  module _ (law : Lawful F) where
+  moving-silent : (d : Does (F .Place)) → Moving F d → Silent F d
+  moving-silent blocked m = tt
+  moving-silent (goes q) m = tt
+  moving-silent (broadcasts q) m = m
+  moving-silent (proposes b a q) m = tt
+
+  module _ (Ready : (ℕ → Option ℕ) → F .Place → Type 0) (law : Lawful F Ready) where
     fall : (x : View) {p q : F .Place} → F .line x p ≡ goes q → F .stop q ≡ false → suc (law .rank q) ≤ law .rank p
     fall x {p} {q} l n = subst (Falls F (law .rank) p) l (law .falls x p) n
 
@@ -86,12 +92,15 @@ module _ (F : Figure) where
     event-stops x p q e = subst Ended e (onward-stops 4 x p (F .line x p) (law .falls x p) (law .most p))
 
     -- only the first line of an event broadcasts
+    silent-between : (x : View) (q : F .Place) → F .stop q ≡ false → Silent F (F .line x q)
+    silent-between x q e = moving-silent (F .line x q) (law .moving x q e)
+
     onward-silent : (m : ℕ) (x : View) (d : Does (F .Place)) → Silent F d → Silent F (onward F m x d)
     unfolding onward
     onward-silent zero x d s = s
     onward-silent (suc m) x blocked s = tt
     onward-silent (suc m) x (goes q) s =
-        cond-ind (Silent F) (F .stop q) (goes q) (onward F m x (F .line x q)) (λ e. tt) (λ e. onward-silent m x (F .line x q) (law .silent x q e))
+        cond-ind (Silent F) (F .stop q) (goes q) (onward F m x (F .line x q)) (λ e. tt) (λ e. onward-silent m x (F .line x q) (silent-between x q e))
     onward-silent (suc m) x (broadcasts q) s = s
     onward-silent (suc m) x (proposes b a q) s = tt
 
@@ -120,18 +129,23 @@ module _ (F : Figure) where
 
     says-alike : (x : View) {p q : F .Place} → Inside F x p q → Says-alike (event F x p) (F .line x q)
     says-alike x {p} outset = says-first x p (F .line x p) refl
-    says-alike x {p} {q} (onto i l n) = inr (event-silent x p (silent-of (begun x (onto i l n))), law .silent x q n)
+    says-alike x {p} {q} (onto i l n) = inr (event-silent x p (silent-of (begun x (onto i l n))), silent-between x q n)
       where
         silent-of : (p ≡ q) ⊎ Silent F (F .line x p) → Silent F (F .line x p)
-        silent-of (inl e) = subst (λ (w : F .Place). Silent F (F .line x w)) (sym e) (law .silent x q n)
+        silent-of (inl e) = subst (λ (w : F .Place). Silent F (F .line x w)) (sym e) (silent-between x q n)
         silent-of (inr t) = t
 
+    inside-ready : (f : ℕ → Option ℕ) (x : View) {p q : F .Place} → Ready f p → Inside F x p q → Ready f q
+    inside-ready f x a outset = a
+    inside-ready f x a (onto t l s) = law .ready f _ s
+
     -- a process stays inside its event when more is delivered and decided
-    inside-grows : (i n : ℕ) (f g : ℕ → Option ℕ) (d e : ℕ → Option Bool) → More f g → More d e → {p q : F .Place}
+    inside-grows : (i n : ℕ) (f g : ℕ → Option ℕ) (d e : ℕ → Option Bool) → More f g → More d e → {p q : F .Place} → Ready f p
         → Inside F (seen i n f d) p q → Inside F (seen i n g e) p q
-    inside-grows i n f g d e m w outset = outset
-    inside-grows i n f g d e m w (onto {q = q} t l s) =
-        onto (inside-grows i n f g d e m w t) (subst (λ (a : Does (F .Place)). Keeps F a (F .line (seen i n g e) q)) l (law .steady i n f g d e m w q) s) s
+    inside-grows i n f g d e m w a outset = outset
+    inside-grows i n f g d e m w a (onto {q = q} t l s) =
+        onto (inside-grows i n f g d e m w a t)
+        (subst (λ (c : Does (F .Place)). Keeps F c (F .line (seen i n g e) q)) l (law .steady i n f g d e m w q (inside-ready f (seen i n f d) a t)) s) s
 
 -- ---- the system
 
@@ -181,7 +195,8 @@ module _ (F : Figure) (n : ℕ) where
     pub all : All-inside places x
     pub back : y ≡ put-back places x
 
-module _ (F : Figure) (law : Lawful F) (n : ℕ) (x : System (F .Place)) (p : ℕ → F .Place) (inside : All-inside F n p x) where
+module _ (F : Figure) (Ready : (ℕ → Option ℕ) → F .Place → Type 0) (law : Lawful F Ready) (n : ℕ) (x : System (F .Place)) (p : ℕ → F .Place)
+    (inside : All-inside F n p x) (ready : (i : ℕ) → Ready (x .process i .prop) (p i)) where
   abbrev y : System (F .Place)
   y = put-back p x
 
@@ -225,7 +240,7 @@ module _ (F : Figure) (law : Lawful F) (n : ℕ) (x : System (F .Place)) (p : �
   silent-none v q (broadcasts r) s = absurd s
   silent-none v q (proposes b a r) s = refl
 
-  claim-becomes : (i v : ℕ) (d e : Does (F .Place)) → Says-alike F law d e → Becomes i (broadcast-by v (x .process i) e) (broadcast-by v (y .process i) d)
+  claim-becomes : (i v : ℕ) (d e : Does (F .Place)) → Says-alike F Ready law d e → Becomes i (broadcast-by v (x .process i) e) (broadcast-by v (y .process i) d)
   claim-becomes i v d e (inl t) =
       subst (λ (w : Does (F .Place)). Becomes i (broadcast-by v (x .process i) e) (broadcast-by v (y .process i) w)) (sym (t .1))
       (subst (λ (w : Does (F .Place)). Becomes i (broadcast-by v (x .process i) w) (some (sending v (t .0) (y .process i)))) (sym (t .2)) (both (sending v (t .0) (x .process i)) (t .0) outset))
@@ -235,13 +250,13 @@ module _ (F : Figure) (law : Lawful F) (n : ℕ) (x : System (F .Place)) (p : �
 
   claim-stands : (i v : ℕ) → Alike-states (lines (claim i v)) (events (claim i v))
   unfolding happens
-  claim-stands i v = owned (live n (F .line) x i) i _ _ (λ c. claim-becomes i v _ _ (says-alike F law (view n x i) (inside i)))
+  claim-stands i v = owned (live n (F .line) x i) i _ _ (λ c. claim-becomes i v _ _ (says-alike F Ready law (view n x i) (inside i)))
 
   deliver-becomes : (j i : ℕ) (s : Option ℕ) → x .process i .prop j ≡ none → Becomes i (deliver-by j s (x .process i)) (deliver-by j s (y .process i))
   deliver-becomes j i none e = neither
   deliver-becomes j i (some v) e =
       both (storing j v (x .process i)) (p i)
-      (inside-grows F law i n (x .process i .prop) (update (x .process i .prop) j (some v)) (x .decision) (x .decision) (more-update (x .process i .prop) j v e) (λ b a h. h) (inside i))
+      (inside-grows F Ready law i n (x .process i .prop) (update (x .process i .prop) j (some v)) (x .decision) (x .decision) (more-update (x .process i .prop) j v e) (λ b a h. h) (ready i) (inside i))
 
   deliver-stands : Undelivered F n x → (j i : ℕ) → Alike-states (lines (deliver j i)) (events (deliver j i))
   unfolding happens
@@ -260,7 +275,7 @@ module _ (F : Figure) (law : Lawful F) (n : ℕ) (x : System (F .Place)) (p : �
   decide-stands true b a e = record {
     places = p;
     all = λ i.
-        inside-grows F law i n (x .process i .prop) (x .process i .prop) (x .decision) (update (x .decision) b (some a)) (λ j v h. h) (more-update (x .decision) b a (e refl)) (inside i);
+        inside-grows F Ready law i n (x .process i .prop) (x .process i .prop) (x .decision) (update (x .decision) b (some a)) (λ j v h. h) (more-update (x .decision) b a (e refl)) (ready i) (inside i);
     back = refl;
   }
 
@@ -289,7 +304,7 @@ module _ (F : Figure) (law : Lawful F) (n : ℕ) (x : System (F .Place)) (p : �
   }
 
   line-done : (i : ℕ) (d : Does (F .Place)) → F .line (view n x i) (x .process i .place) ≡ d → Ended F d → event F (view n x i) (p i) ≡ d
-  line-done i d l e = event-ends F law (view n x i) (ends-inside F (view n x i) (inside i) (last l e))
+  line-done i d l e = event-ends F Ready law (view n x i) (ends-inside F (view n x i) (inside i) (last l e))
 
   -- a STEP is kept, or left out
   abbrev Kept-or-not : ℕ → Type 0

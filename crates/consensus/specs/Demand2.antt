@@ -20,7 +20,7 @@ figure-by byClaim = two.figure2
 abbrev pub figure-of : Opening → Figure
 figure-of o = figure-by (o .rule)
 
--- the place that a stage stands for; figure 1 has no finish instances
+-- the place that a stage stands for; figure 1 has no finish instances. Figure 1 returns prop[l], which is the decided claim and never ⊥
 abbrev pub place-1 : Stage → Option one.Place
 place-1 idle = some one.line4
 place-1 waiting = some one.line5
@@ -29,7 +29,7 @@ place-1 (awaiting j k l) = some (one.in8 j k l)
 place-1 (seeking j k l) = some (one.line9 j k l)
 place-1 (finish-voting j k d) = none
 place-1 (finish-awaiting j k d) = none
-place-1 (decided v k) = some (one.returned v)
+place-1 (decided v k) = some (one.returned (some v))
 
 abbrev pub place-2 : Stage → Option two.Place
 place-2 idle = some two.line4
