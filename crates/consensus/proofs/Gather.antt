@@ -14,11 +14,11 @@ use Rattle.consensus.specs.Events.{Event, claim, deliver, step, lose, an
 use Rattle.consensus.specs.State.{update}
 use Rattle.consensus.specs.Rules.{any-below, is-bit}
 use Rattle.consensus.specs.Figure.{View, Does, blocked, goes, broadcasts, proposes, known, Figure, onward, event}
-use Rattle.consensus.specs.System.{Process, System, Label, decide, view, provided, moved, sending, proposing, storing, crashing, broadcast-by, advance-by, deliver-by, with-process, stay, then, live, done, happens, takes}
+use Rattle.consensus.specs.System.{Process, System, view, moved, sending, proposing, storing, crashing}
+use Rattle.consensus.specs.Runs.{Label, decide, provided, broadcast-by, advance-by, deliver-by, with-process, stay, then, live, done, happens, takes}
 use Rattle.consensus.specs.Lines.{Inside, outset, onto, put-back}
-use Rattle.consensus.proofs.Basics.{by-bool, cond-ind, no-clash, and-true, update-ind, update-same}
+use Rattle.consensus.proofs.Basics.{by-bool, cond-ind, and-true, update-ind, pair-ind}
 use Rattle.consensus.proofs.Lawful.{More, seen, Falls, Keeps, Silent, Moving, Lawful}
-use Rattle.consensus.proofs.Shown.{pair-ind}
 
 -- ---- one process
 

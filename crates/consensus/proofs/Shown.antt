@@ -8,30 +8,21 @@ use mathlib.Core.Bool.{Bool, true, false, cond, not, _&&_, _||_}
 use mathlib.Core.Option.{Option, none, some}
 use native.Mathlib.Omega.{arith}
 use lib.Dec.{eqb, ltb}
-use borrow.Author.Tests.{lt-ltb, eqb-true}
+use borrow.Author.Tests.{lt-ltb}
 use Rattle.consensus.specs.Events.{Event, claim, deliver, step, lose, answer, Rule, byStation, byClaim, Opening, Accepts, ballots}
 use Rattle.consensus.specs.State.{Stage, idle, waiting, Station, State, not-idle, claimed, claim-of, held, answered, update, set-station}
 use Rattle.consensus.specs.Rules.{any-below, is-bit, refuse, stage-number, number, claiming, holding, losing, step-from, effect, casting, was-cast, as-bit}
 use Rattle.consensus.specs.Figure.{View, Does, blocked, goes, broadcasts, proposes, known, event}
-use Rattle.consensus.specs.System.{Process, System, provided, moved, sending, proposing, storing, crashing, broadcast-by, advance-by, deliver-by, with-process, then, Label, decide, done, happens, takes}
+use Rattle.consensus.specs.System.{Process, System, moved, sending, proposing, storing, crashing}
+use Rattle.consensus.specs.Runs.{provided, broadcast-by, advance-by, deliver-by, with-process, then, Label, decide, done, happens, takes}
 use Rattle.consensus.specs.Demand2.{figure-by, figure-of, place-by, Shows, Figure-state}
-use Rattle.consensus.proofs.Basics.{by-bool, no-clash, update-ind, any-found, is-bit-some}
+use Rattle.consensus.proofs.Basics.{no-clash, update-ind, pair-ind, any-found, is-bit-some}
 use Rattle.consensus.proofs.Invariant.{Stage-ok, Inv}
 use Rattle.consensus.proofs.Accepted.{step-active}
 use Rattle.consensus.proofs.Alike.{Alike, both-blocked, both-go, both-broadcast, both-propose, Verdict, both, neither, play-view, does-at, Side, side, Quiet, claim-side}
 use Rattle.consensus.proofs.Alike1.{alike-1}
 use Rattle.consensus.proofs.Alike2.{alike-2}
-use Rattle.consensus.proofs.Bounds.{Small, ballot-below, not-last}
-
--- two functions updated at the same place are related at each place if they were, and the new values are
-pub pair-ind : {A B : Type 0} (R : A → B → Type 0) (f : ℕ → A) (g : ℕ → B) (s : ℕ) (a : A) (b : B) (i : ℕ)
-    → (i ≡ s → R a b) → R (f i) (g i) → R (update f s a i) (update g s b i)
-unfolding update
-pair-ind R f g s a b i new old = go (eqb i s) (eqb-true i s)
-  where
-    go : (t : Bool) → (t ≡ true → i ≡ s) → R (cond t a (f i)) (cond t b (g i))
-    go true e = new (e refl)
-    go false e = old
+use Rattle.consensus.proofs.Bounds.{In-bounds}
 
 same-entry : (h : Bool) (v w : ℕ) → (h ≡ true → v ≡ w) → _≡_ {A = Option ℕ} (cond h (some v) none) (cond h (some w) none)
 same-entry true v w e = ap (λ (u : ℕ). some u) (e refl)
@@ -213,13 +204,13 @@ module _ (o : Opening) where
           holdings = refl;
         }) a)
 
-    step-verdict : Inv o st → Small st → Accepts o → (s : ℕ) → Verdict (number o st (step s)) (takes (o .count) (event (figure-of o)) x (step s)) (shown-after (step s))
+    step-verdict : Inv o st → In-bounds o st → Accepts o → (s : ℕ) → Verdict (number o st (step s)) (takes (o .count) (event (figure-of o)) x (step s)) (shown-after (step s))
     unfolding number effect happens
-    step-verdict inv small ok s =
+    step-verdict inv within ok s =
         owned (ltb s (o .count)) (st .station s .lost) (x .process s .crashed) (stage-number o st s (st .station s .stage)) s (advance-by (x .process s) (does s))
         (Stepped s p) (λ y. Shows o (set-station st s p) y) (shows .crashed s)
         (λ q t. own-shows inv s p q (t .part) (λ c. t .own) (λ i h. inv .parts s .holdings i (subst (λ (f : ℕ → Bool). f i ≡ true) (t .holdings) h) .2))
-        (step-inner s _ p _ (does s) (step-active o st s (st .station s .stage) (st .station s) refl) (alike inv ok s) (side o st s (st .station s .stage) (not-last o st inv small s)))
+        (step-inner s _ p _ (does s) (step-active o st s (st .station s .stage) (st .station s) refl) (alike inv ok s) (side o st s (st .station s .stage) (within .not-last s)))
       where
         p : Station
         p = step-from o st s (st .station s .stage) (st .station s)
@@ -314,9 +305,9 @@ module _ (o : Opening) where
     then-provided true l f = refl
     then-provided false l f = refl
 
-    answer-verdict : Inv o st → Small st → (b a : ℕ) → Verdict (number o st (answer b a)) (takes (o .count) (event (figure-of o)) x (answer b a)) (shown-after (answer b a))
+    answer-verdict : Inv o st → In-bounds o st → (b a : ℕ) → Verdict (number o st (answer b a)) (takes (o .count) (event (figure-of o)) x (answer b a)) (shown-after (answer b a))
     unfolding number effect happens
-    answer-verdict inv small b a =
+    answer-verdict inv within b a =
         subst (λ (y : Option (Figure-state o)). Verdict (number o st (answer b a)) y (shown-after (answer b a))) (sym (then-provided (not (ltb 1 a)) (decide b (eqb a 1)) (happens (o .count) (event (figure-of o)) x)))
         (subst (λ (k : Bool). Told k (λ i. is-bit (as-bit a) (x .process i .proposed b))) (sym (ap known (shows .decision b) ∙ same-known (st .answer-of b)))
         (subst (λ (f : ℕ → Bool). Told (answered (st .answer-of b)) f) (fun-ext (λ i. ap (is-bit (as-bit a)) (sym (shows .proposed i b))))
@@ -328,11 +319,11 @@ module _ (o : Opening) where
             (Shows o (record { station = st .station; answer-of = update (st .answer-of) b (some (as-bit a)) }))
 
         there : was-cast o st b (as-bit a) ≡ true → ltb b (ballots o) ≡ true
-        there c = let f = any-found (o .count) _ c in lt-ltb b (ballots o) (ballot-below o st inv small (f .0) b (as-bit a) (is-bit-some (as-bit a) _ (f .2)))
+        there c = let f = any-found (o .count) _ c in lt-ltb b (ballots o) (within .ballot (f .0) b (as-bit a) (is-bit-some (as-bit a) _ (f .2)))
 
-    pub verdict : Inv o st → Small st → Accepts o → (e : Event) → Verdict (number o st e) (takes (o .count) (event (figure-of o)) x e) (shown-after e)
-    verdict inv small ok (claim s v) = claim-verdict inv ok s v
-    verdict inv small ok (deliver t s) = deliver-verdict inv t s
-    verdict inv small ok (step s) = step-verdict inv small ok s
-    verdict inv small ok (lose s) = lose-verdict inv s
-    verdict inv small ok (answer b a) = answer-verdict inv small b a
+    pub verdict : Inv o st → In-bounds o st → Accepts o → (e : Event) → Verdict (number o st e) (takes (o .count) (event (figure-of o)) x e) (shown-after e)
+    verdict inv within ok (claim s v) = claim-verdict inv ok s v
+    verdict inv within ok (deliver t s) = deliver-verdict inv t s
+    verdict inv within ok (step s) = step-verdict inv within ok s
+    verdict inv within ok (lose s) = lose-verdict inv s
+    verdict inv within ok (answer b a) = answer-verdict inv within b a

@@ -11,7 +11,8 @@ use Rattle.consensus.specs.Rules.{after}
 use Rattle.consensus.specs.Words.{Fitting, Claims-fit}
 use Rattle.consensus.specs.Figure.{known, event}
 use Rattle.consensus.specs.Figure2 as two
-use Rattle.consensus.specs.System.{System, view, stay, takes, run}
+use Rattle.consensus.specs.System.{System, view}
+use Rattle.consensus.specs.Runs.{stay, takes, run}
 use Rattle.consensus.specs.Demand2.{figure-by, figure-of, place-2, place-by, Figure-state, Shows, figure-after}
 use Rattle.consensus.specs.Lines.{Thinned, empty, kept, left-out, Inside, outset, put-back, lines-after, Within, Whole-events, Single-lines}
 use Rattle.consensus.proofs.Invariant.{Stage-ok, Inv}

@@ -11,7 +11,8 @@ use Rattle.consensus.specs.Words.{Claims-fit}
 use Rattle.consensus.specs.Figure.{Figure, event}
 use Rattle.consensus.specs.Figure1 as one
 use Rattle.consensus.specs.Figure2 as two
-use Rattle.consensus.specs.System.{System, Label, label-of, takes, run}
+use Rattle.consensus.specs.System.{System}
+use Rattle.consensus.specs.Runs.{Label, label-of, takes, run}
 
 abbrev pub figure-by : Rule → Figure
 figure-by byStation = one.figure1

@@ -8,7 +8,8 @@ use Rattle.consensus.specs.Events.{Event, step, History, start, _▷_, R
 use Rattle.consensus.specs.Rules.{after}
 use Rattle.consensus.specs.Words.{Claims-fit}
 use Rattle.consensus.specs.Figure.{View, goes, Figure, event}
-use Rattle.consensus.specs.System.{System, moved, view, run}
+use Rattle.consensus.specs.System.{System, moved, view}
+use Rattle.consensus.specs.Runs.{run}
 use Rattle.consensus.specs.Demand2.{figure-by, figure-of, Figure-state, Shows, figure-after}
 
 -- g is h with some STEPs left out
