@@ -39,7 +39,7 @@ module _ (F : Figure) where
   ends-inside x outset e = e
   ends-inside x (onto i l n) e = ends-inside x i (more l n e)
 
-  onward-ended : (m : ℕ) (x : View) (d : Does (F .Place)) → Ended d → onward F m x d ≡ d
+  pub onward-ended : (m : ℕ) (x : View) (d : Does (F .Place)) → Ended d → onward F m x d ≡ d
   unfolding onward
   onward-ended zero x d e = refl
   onward-ended (suc m) x blocked e = refl
@@ -47,9 +47,16 @@ module _ (F : Figure) where
   onward-ended (suc m) x (broadcasts q) e = refl
   onward-ended (suc m) x (proposes b a q) e = refl
 
-  onward-on : (m : ℕ) (x : View) (q : F .Place) → F .stop q ≡ false → onward F (suc m) x (goes q) ≡ onward F m x (F .line x q)
+  pub onward-on : (m : ℕ) (x : View) (q : F .Place) → F .stop q ≡ false → onward F (suc m) x (goes q) ≡ onward F m x (F .line x q)
   unfolding onward
   onward-on m x q n = ap (λ (b : Bool). cond b (goes q) (onward F m x (F .line x q))) n
+
+  -- who does not broadcast cannot take part as broadcasting v
+  pub unsaid : (v : ℕ) (q : Process (F .Place)) (d : Does (F .Place)) → Silent F d → broadcast-by v q d ≡ none
+  unsaid v q blocked s = refl
+  unsaid v q (goes r) s = refl
+  unsaid v q (broadcasts r) s = absurd s
+  unsaid v q (proposes b a r) s = refl
 
   moving-silent : (d : Does (F .Place)) → Moving F d → Silent F d
   moving-silent blocked m = tt
@@ -58,7 +65,7 @@ module _ (F : Figure) where
   moving-silent (proposes b a q) m = tt
 
   module _ (Ready : (ℕ → Option ℕ) → F .Place → Type 0) (law : Lawful F Ready) where
-    fall : (x : View) {p q : F .Place} → F .line x p ≡ goes q → F .stop q ≡ false → suc (law .rank q) ≤ law .rank p
+    pub fall : (x : View) {p q : F .Place} → F .line x p ≡ goes q → F .stop q ≡ false → suc (law .rank q) ≤ law .rank p
     fall x {p} {q} l n = subst (Falls F (law .rank) p) l (law .falls x p) n
 
     onward-ends : (m : ℕ) (x : View) {p : F .Place} {d : Does (F .Place)} → Ends x p d → law .rank p ≤ m → onward F m x (F .line x p) ≡ d
@@ -118,10 +125,10 @@ module _ (F : Figure) where
         first (inr t) = t
 
     -- the event and the line that a process stands at broadcast alike
-    abbrev Says-alike : Does (F .Place) → Does (F .Place) → Type 0
+    abbrev pub Says-alike : Does (F .Place) → Does (F .Place) → Type 0
     Says-alike d e = ((r : F .Place) × (d ≡ broadcasts r) × (e ≡ broadcasts r)) ⊎ (Silent F d × Silent F e)
 
-    says-first : (x : View) (p : F .Place) (d : Does (F .Place)) → F .line x p ≡ d → Says-alike (event F x p) d
+    pub says-first : (x : View) (p : F .Place) (d : Does (F .Place)) → F .line x p ≡ d → Says-alike (event F x p) d
     says-first x p blocked e = inr (event-silent x p (subst (Silent F) (sym e) tt), tt)
     says-first x p (goes q) e = inr (event-silent x p (subst (Silent F) (sym e) tt), tt)
     says-first x p (broadcasts q) e = inl (q, event-ends x (last e tt), refl)
@@ -234,19 +241,13 @@ module _ (F : Figure) (Ready : (ℕ → Option ℕ) → F .Place → Type 0) (la
   abbrev events : Event → System (F .Place)
   events e = stay y (takes n (event F) y e)
 
-  silent-none : (v : ℕ) (q : Process (F .Place)) (d : Does (F .Place)) → Silent F d → broadcast-by v q d ≡ none
-  silent-none v q blocked s = refl
-  silent-none v q (goes r) s = refl
-  silent-none v q (broadcasts r) s = absurd s
-  silent-none v q (proposes b a r) s = refl
-
   claim-becomes : (i v : ℕ) (d e : Does (F .Place)) → Says-alike F Ready law d e → Becomes i (broadcast-by v (x .process i) e) (broadcast-by v (y .process i) d)
   claim-becomes i v d e (inl t) =
       subst (λ (w : Does (F .Place)). Becomes i (broadcast-by v (x .process i) e) (broadcast-by v (y .process i) w)) (sym (t .1))
       (subst (λ (w : Does (F .Place)). Becomes i (broadcast-by v (x .process i) w) (some (sending v (t .0) (y .process i)))) (sym (t .2)) (both (sending v (t .0) (x .process i)) (t .0) outset))
   claim-becomes i v d e (inr t) =
-      subst (λ (w : Option (Process (F .Place))). Becomes i w (broadcast-by v (y .process i) d)) (sym (silent-none v (x .process i) e (t .1)))
-      (subst (λ (w : Option (Process (F .Place))). Becomes i none w) (sym (silent-none v (y .process i) d (t .0))) neither)
+      subst (λ (w : Option (Process (F .Place))). Becomes i w (broadcast-by v (y .process i) d)) (sym (unsaid F v (x .process i) e (t .1)))
+      (subst (λ (w : Option (Process (F .Place))). Becomes i none w) (sym (unsaid F v (y .process i) d (t .0))) neither)
 
   claim-stands : (i v : ℕ) → Alike-states (lines (claim i v)) (events (claim i v))
   unfolding happens

@@ -41,6 +41,7 @@ pub mod Demand3
 --     Figures      demand 2 about the play
 --     Lawful       what both figures' lines have in common
 --     Gather       single lines gathered into events
+--     Spread       an event spread over its lines
 --     SingleLines  a run of single lines ends where the play ends
 pub mod Alike
 pub mod Alike1
@@ -50,4 +51,5 @@ pub mod Shown
 pub mod Figures
 pub mod Lawful
 pub mod Gather
+pub mod Spread
 pub mod SingleLines

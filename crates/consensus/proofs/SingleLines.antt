@@ -1,11 +1,11 @@
 -- A run of single lines ends where the play ends on the list with fewer STEPs: line by line the state reached stands for the one
--- that whole events reach, and that one shows the play's. Assumes nothing.
-use Prim.Native.Nat.{ℕ}
+-- that whole events reach, and that one shows the play's. The other way, a STEP's lines are done one by one. Assumes nothing.
+use Prim.Native.Nat.{ℕ, zero, suc}
 use mathlib.Core.Path.{_≡_, refl, sym, subst, ap, _∙_, fun-ext}
 use mathlib.Core.Logic.{_⊎_, inl, inr}
 use mathlib.Core.Bool.{Bool, true, false, cond}
 use mathlib.Core.Option.{Option, none, some, Option·some-injective}
-use Rattle.consensus.specs.Events.{Event, step, History, start, _▷_, Rule, byStation, byClaim, Opening, Accepts}
+use Rattle.consensus.specs.Events.{Event, claim, deliver, step, lose, answer, History, start, _▷_, Rule, byStation, byClaim, Opening, Accepts}
 use Rattle.consensus.specs.State.{Stage, idle, waiting, voting, awaiting, seeking, finish-voting, finish-awaiting, decided, State, claim-of}
 use Rattle.consensus.specs.Rules.{after}
 use Rattle.consensus.specs.Words.{Fitting, Claims-fit}
@@ -19,6 +19,7 @@ use Rattle.consensus.proofs.Invariant.{Stage-ok, Inv}
 use Rattle.consensus.proofs.Reached.{reached}
 use Rattle.consensus.proofs.Lawful.{Ready-2, Ready-by, lawful}
 use Rattle.consensus.proofs.Gather.{Undelivered, Stands, Gathered, gather, event-stops}
+use Rattle.consensus.proofs.Spread.{turns, spread, claimed-alike, delivered-alike, lost-alike, answered-alike}
 use Rattle.consensus.proofs.Figures.{shown}
 
 thinned-fit : {g h : History} → Thinned g h → Claims-fit h → Claims-fit g
@@ -115,5 +116,61 @@ module _ (o : Opening) (ok : Accepts o) where
         shown = shown o ok (t .list) (thinned-fit (t .thinned) fit);
       }
 
+-- ---- the other way
+
+-- a list with one STEP of i more, and m more again
+more-steps : ℕ → ℕ → History → History
+more-steps zero i g = g ▷ step i
+more-steps (suc m) i g = more-steps m i (g ▷ step i)
+
+more-thinned : (m i : ℕ) (h g : History) → Thinned h g → Thinned (h ▷ step i) (more-steps m i g)
+unfolding more-steps
+more-thinned zero i h g t = kept (step i) t
+more-thinned (suc m) i h g t = more-thinned m i h (g ▷ step i) (left-out i t)
+
+module _ (o : Opening) where
+  more-lines : (m i : ℕ) (g : History) → lines-after o (more-steps m i g) ≡ turns (figure-of o) (Ready-by (o .rule)) (lawful (o .rule)) (o .count) m i (lines-after o g)
+  unfolding more-steps run turns
+  more-lines zero i g = refl
+  more-lines (suc m) i g = more-lines m i (g ▷ step i)
+
+  abbrev Spread-list : History → Type 0
+  Spread-list h = (g : History) × Thinned h g × (lines-after o g ≡ figure-after o h)
+
+  abbrev lines-next : Figure-state o → Event → Figure-state o
+  lines-next x e = stay x (takes (o .count) (figure-of o .line) x e)
+
+  abbrev events-next : Figure-state o → Event → Figure-state o
+  events-next x e = stay x (takes (o .count) (event (figure-of o)) x e)
+
+  spread-same : (h : History) (e : Event) → ((x : Figure-state o) → lines-next x e ≡ events-next x e) → Spread-list h → Spread-list (h ▷ e)
+  unfolding run
+  spread-same h e same t = (t .0 ▷ e, kept e (t .1), ap (λ (x : Figure-state o). lines-next x e) (t .2) ∙ same (figure-after o h))
+
+  spread-step : (h : History) (i : ℕ) → Spread-list h → Spread-list (h ▷ step i)
+  unfolding run
+  spread-step h i t =
+      let w = spread (figure-of o) (Ready-by (o .rule)) (lawful (o .rule)) (o .count) (figure-after o h) i in (
+        more-steps (w .0) i (t .0),
+        more-thinned (w .0) i h (t .0) (t .1),
+        more-lines (w .0) i (t .0) ∙ (ap (turns (figure-of o) (Ready-by (o .rule)) (lawful (o .rule)) (o .count) (w .0) i) (t .2) ∙ w .1),
+      )
+
+  spread-next : (h : History) (e : Event) → Spread-list h → Spread-list (h ▷ e)
+  spread-next h (claim s v) t = spread-same h (claim s v) (λ x. claimed-alike (figure-of o) (Ready-by (o .rule)) (lawful (o .rule)) (o .count) x s v) t
+  spread-next h (deliver t s) l = spread-same h (deliver t s) (λ x. delivered-alike (figure-of o) (Ready-by (o .rule)) (lawful (o .rule)) (o .count) x t s) l
+  spread-next h (step s) t = spread-step h s t
+  spread-next h (lose s) t = spread-same h (lose s) (λ x. lost-alike (figure-of o) (Ready-by (o .rule)) (lawful (o .rule)) (o .count) x s) t
+  spread-next h (answer b a) t = spread-same h (answer b a) (λ x. answered-alike (figure-of o) (Ready-by (o .rule)) (lawful (o .rule)) (o .count) x b a) t
+
+  spread-list : (h : History) → Spread-list h
+  unfolding run
+  spread-list start = (start, empty, refl)
+  spread-list (h ▷ e) = spread-next h e (spread-list h)
+
 pub single-lines : Single-lines
-single-lines = record { holds = λ o ok h fit. whole o ok h fit; stops = λ r. event-stops (figure-by r) (Ready-by r) (lawful r) }
+single-lines = record {
+  holds = λ o ok h fit. whole o ok h fit;
+  lines = spread-list;
+  stops = λ r. event-stops (figure-by r) (Ready-by r) (lawful r);
+}

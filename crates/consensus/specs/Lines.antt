@@ -47,5 +47,7 @@ module _ (o : Opening) where
 
 pub record Single-lines : Type 0 where
   pub holds : (o : Opening) → Accepts o → (h : History) → Claims-fit h → Whole-events o h
+  -- the other way, an event is nothing but lines: a run of whole events is a run of lines on some list with more STEPs
+  pub lines : (o : Opening) (h : History) → (g : History) × Thinned h g × (lines-after o g ≡ figure-after o h)
   -- four lines after the first are enough: an event ends at a stop
   pub stops : (r : Rule) (x : View) (p q : figure-by r .Place) → event (figure-by r) x p ≡ goes q → figure-by r .stop q ≡ true
