@@ -16,8 +16,8 @@ use Rattle.consensus.specs.Demand2.{figure-by, figure-of, place-by, Figu
 use Rattle.consensus.proofs.Reached.{reached}
 use Rattle.consensus.proofs.Station.{next-accepted}
 use Rattle.consensus.proofs.Alike.{Verdict, both, neither}
-use Rattle.consensus.proofs.Bounds.{in-bounds}
-use Rattle.consensus.proofs.Shown.{verdict}
+use Rattle.consensus.proofs.Ballots.{in-bounds}
+use Rattle.consensus.proofs.Shown.{Judged, verdict}
 
 first-shown : (r : Rule) → place-by r idle ≡ some (figure-by r .first)
 first-shown byStation = refl
@@ -28,11 +28,8 @@ unfolding next
 next-refused o st e z = ap (λ (b : Bool). cond b (effect o st e) st) (ne-eqb _ 0 z)
 
 module _ (o : Opening) (st : State) (x : Figure-state o) (e : Event) where
-  abbrev Decided-alike : Type 0
-  Decided-alike = Verdict (number o st e) (takes (o .count) (event (figure-of o)) x e) (λ y. Shows o (effect o st e) y)
-
   -- where both go on the states after show each other, and else both stay
-  next-shown : Shows o st x → Decided-alike → Shows o (next o st e) (stay x (takes (o .count) (event (figure-of o)) x e))
+  next-shown : Shows o st x → Judged o st x e → Shows o (next o st e) (stay x (takes (o .count) (event (figure-of o)) x e))
   next-shown h (both z y t w) = subst (λ (s : State). Shows o s (stay x (takes (o .count) (event (figure-of o)) x e))) (sym (next-accepted o st e z)) (
       subst (λ (m : Option (Figure-state o)). Shows o (effect o st e) (stay x m)) (sym t) w
       )
@@ -40,13 +37,16 @@ module _ (o : Opening) (st : State) (x : Figure-state o) (e : Event) where
       subst (λ (m : Option (Figure-state o)). Shows o st (stay x m)) (sym t) h
       )
 
-  accepted-step : number o st e ≡ 0 → Decided-alike → (y : Figure-state o) × Step o x e y × Shows o (next o st e) y
+  accepted-step : number o st e ≡ 0 → Judged o st x e → (y : Figure-state o) × Step o x e y × Shows o (next o st e) y
   accepted-step n (both z y t w) = (y, t, subst (λ (s : State). Shows o s y) (sym (next-accepted o st e z)) w)
   accepted-step n (neither z t) = absurd (z n)
 
-  allowed-step : (y : Figure-state o) → Step o x e y → Decided-alike → (number o st e ≡ 0) × Shows o (next o st e) y
-  allowed-step y q (both z y' t w) =
-      (z, subst (λ (s : State). Shows o s y) (sym (next-accepted o st e z)) (subst (λ (m : Figure-state o). Shows o (effect o st e) m) (Option·some-injective y' y (sym t ∙ q)) w))
+  allowed-step : (y : Figure-state o) → Step o x e y → Judged o st x e → (number o st e ≡ 0) × Shows o (next o st e) y
+  allowed-step y q (both z y' t w) = (
+    z,
+    subst (λ (s : State). Shows o s y) (sym (next-accepted o st e z))
+        (subst (λ (m : Figure-state o). Shows o (effect o st e) m) (Option·some-injective y' y (sym t ∙ q)) w),
+  )
   allowed-step y q (neither z t) = absurd (Option·none-ne-some y (sym t ∙ q))
 
 module _ (o : Opening) (ok : Accepts o) where
@@ -65,7 +65,7 @@ module _ (o : Opening) (ok : Accepts o) where
       next-shown o (after o h) (figure-after o h) e (shown h (fit .0))
       (verdict o (after o h) (figure-after o h) (shown h (fit .0)) (reached o h) (in-bounds o h (fit .0)) ok e)
 
-  pub same-verdict : (h : History) → Claims-fit h → (e : Event) → Decided-alike o (after o h) (figure-after o h) e
+  pub same-verdict : (h : History) → Claims-fit h → (e : Event) → Judged o (after o h) (figure-after o h) e
   same-verdict h fit e = verdict o (after o h) (figure-after o h) (shown h fit) (reached o h) (in-bounds o h fit) ok e
 
   demand2-of : (h : History) → Claims-fit h → Demand2-of o h

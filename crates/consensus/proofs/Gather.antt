@@ -241,10 +241,12 @@ module _ (F : Figure) (Ready : (ℕ → Option ℕ) → F .Place → Type 0) (la
   abbrev events : Event → System (F .Place)
   events e = stay y (takes n (event F) y e)
 
-  claim-becomes : (i v : ℕ) (d e : Does (F .Place)) → Says-alike F Ready law d e → Becomes i (broadcast-by v (x .process i) e) (broadcast-by v (y .process i) d)
+  claim-becomes : (i v : ℕ) (d e : Does (F .Place)) → Says-alike F Ready law d e
+      → Becomes i (broadcast-by v (x .process i) e) (broadcast-by v (y .process i) d)
   claim-becomes i v d e (inl t) =
       subst (λ (w : Does (F .Place)). Becomes i (broadcast-by v (x .process i) e) (broadcast-by v (y .process i) w)) (sym (t .1))
-      (subst (λ (w : Does (F .Place)). Becomes i (broadcast-by v (x .process i) w) (some (sending v (t .0) (y .process i)))) (sym (t .2)) (both (sending v (t .0) (x .process i)) (t .0) outset))
+      (subst (λ (w : Does (F .Place)). Becomes i (broadcast-by v (x .process i) w) (some (sending v (t .0) (y .process i)))) (sym (t .2))
+      (both (sending v (t .0) (x .process i)) (t .0) outset))
   claim-becomes i v d e (inr t) =
       subst (λ (w : Option (Process (F .Place))). Becomes i w (broadcast-by v (y .process i) d)) (sym (unsaid F v (x .process i) e (t .1)))
       (subst (λ (w : Option (Process (F .Place))). Becomes i none w) (sym (unsaid F v (y .process i) d (t .0))) neither)
@@ -257,7 +259,8 @@ module _ (F : Figure) (Ready : (ℕ → Option ℕ) → F .Place → Type 0) (la
   deliver-becomes j i none e = neither
   deliver-becomes j i (some v) e =
       both (storing j v (x .process i)) (p i)
-      (inside-grows F Ready law i n (x .process i .prop) (update (x .process i .prop) j (some v)) (x .decision) (x .decision) (more-update (x .process i .prop) j v e) (λ b a h. h) (ready i) (inside i))
+      (inside-grows F Ready law i n (x .process i .prop) (update (x .process i .prop) j (some v)) (x .decision) (x .decision)
+      (more-update (x .process i .prop) j v e) (λ b a h. h) (ready i) (inside i))
 
   deliver-stands : Undelivered F n x → (j i : ℕ) → Alike-states (lines (deliver j i)) (events (deliver j i))
   unfolding happens
@@ -276,7 +279,8 @@ module _ (F : Figure) (Ready : (ℕ → Option ℕ) → F .Place → Type 0) (la
   decide-stands true b a e = record {
     places = p;
     all = λ i.
-        inside-grows F Ready law i n (x .process i .prop) (x .process i .prop) (x .decision) (update (x .decision) b (some a)) (λ j v h. h) (more-update (x .decision) b a (e refl)) (ready i) (inside i);
+        inside-grows F Ready law i n (x .process i .prop) (x .process i .prop) (x .decision) (update (x .decision) b (some a)) (λ j v h. h)
+        (more-update (x .decision) b a (e refl)) (ready i) (inside i);
     back = refl;
   }
 
@@ -311,20 +315,29 @@ module _ (F : Figure) (Ready : (ℕ → Option ℕ) → F .Place → Type 0) (la
   abbrev Kept-or-not : ℕ → Type 0
   Kept-or-not i = Alike-states (lines (step i)) (events (step i)) ⊎ Alike-states (lines (step i)) y
 
+  -- the state after the process i does d by a line, and e by an event
+  abbrev by-line : Bool → ℕ → Does (F .Place) → System (F .Place)
+  by-line c i d = stay x (provided c (with-process x i (advance-by (x .process i) d)))
+
+  abbrev by-event : Bool → ℕ → Does (F .Place) → System (F .Place)
+  by-event c i e = stay y (provided c (with-process y i (advance-by (y .process i) e)))
+
   step-by : (c : Bool) (i : ℕ) (d : Does (F .Place)) → F .line (view n x i) (x .process i .place) ≡ d
-      → Alike-states (stay x (provided c (with-process x i (advance-by (x .process i) d)))) (stay y (provided c (with-process y i (advance-by (y .process i) (event F (view n x i) (p i))))))
-      ⊎ Alike-states (stay x (provided c (with-process x i (advance-by (x .process i) d)))) y
+      → Alike-states (by-line c i d) (by-event c i (event F (view n x i) (p i))) ⊎ Alike-states (by-line c i d) y
   step-by false i d l = inr same
   step-by true i blocked l = inr same
-  step-by true i (goes r) l = by-bool (F .stop r) (λ e. inl (
-      subst (λ (z : Does (F .Place)). Alike-states (stay x (with-process x i (some (moved r (x .process i))))) (stay y (with-process y i (advance-by (y .process i) z)))) (sym (line-done i (goes r) l e))
-      (changed i _ _ (both (moved r (x .process i)) r outset))
-      )) (λ e. inr (line-on i r l e))
+  step-by true i (goes r) l =
+      by-bool (F .stop r)
+      (λ e.
+      inl
+      (subst (λ (z : Does (F .Place)). Alike-states (by-line true i (goes r)) (by-event true i z)) (sym (line-done i (goes r) l e))
+      (changed i _ _ (both (moved r (x .process i)) r outset))))
+      (λ e. inr (line-on i r l e))
   step-by true i (broadcasts r) l = inr same
-  step-by true i (proposes b a r) l = inl (
-      subst (λ (z : Does (F .Place)). Alike-states (stay x (with-process x i (some (proposing b a r (x .process i))))) (stay y (with-process y i (advance-by (y .process i) z)))) (sym (line-done i (proposes b a r) l tt))
-      (changed i _ _ (both (proposing b a r (x .process i)) r outset))
-      )
+  step-by true i (proposes b a r) l =
+      inl
+      (subst (λ (z : Does (F .Place)). Alike-states (by-line true i (proposes b a r)) (by-event true i z)) (sym (line-done i (proposes b a r) l tt))
+      (changed i _ _ (both (proposing b a r (x .process i)) r outset)))
 
   pub step-stands : (i : ℕ) → Kept-or-not i
   unfolding happens

@@ -69,7 +69,8 @@ module _ (F : Figure) where
   await-keeps none b f m = tt
   await-keeps (some v) b f m = subst (λ y. Keeps (f v) (await y f)) (sym (m v refl)) (keeps-same (f v))
 
-  await-falls : {A : Type 0} (rank : F .Place → ℕ) (p : F .Place) (a : Option A) (f : A → Does (F .Place)) → ((v : A) → Falls rank p (f v)) → Falls rank p (await a f)
+  await-falls : {A : Type 0} (rank : F .Place → ℕ) (p : F .Place) (a : Option A) (f : A → Does (F .Place)) → ((v : A) → Falls rank p (f v))
+      → Falls rank p (await a f)
   await-falls rank p none f m = tt
   await-falls rank p (some v) f m = m v
 
@@ -79,7 +80,8 @@ module _ (F : Figure) where
   test-keeps false b q r m s = λ e. absurd (true≢false (sym s ∙ e))
       -- a test whose outcomes are stops or of lower rank
 
-  test-falls : (rank : F .Place → ℕ) (p : F .Place) (a : Bool) (q r : F .Place) → Falls rank p (goes q) → Falls rank p (goes r) → Falls rank p (goes (cond a q r))
+  test-falls : (rank : F .Place → ℕ) (p : F .Place) (a : Bool) (q r : F .Place) → Falls rank p (goes q) → Falls rank p (goes r)
+      → Falls rank p (goes (cond a q r))
   test-falls rank p true q r x y = x
   test-falls rank p false q r x y = y
 
@@ -143,11 +145,14 @@ unfolding rank-1 one.line
 falls-1 x one.line4 = tt
 falls-1 x one.line5 = await-falls one.figure1 rank-1 one.line5 (x .prop (x .self)) (λ v. goes one.line6) (λ v e. lit≤ tt)
 falls-1 x one.line6 = λ e. lit≤ tt
-falls-1 x (one.line7 j k l) = test-falls one.figure1 rank-1 (one.line7 j k l) (ltb k (ceilLog2 (x .count))) (one.line8 j k l) (one.line12 l) no-stop (λ e. lit≤ tt)
+falls-1 x (one.line7 j k l) =
+    test-falls one.figure1 rank-1 (one.line7 j k l) (ltb k (ceilLog2 (x .count))) (one.line8 j k l) (one.line12 l) no-stop (λ e. lit≤ tt)
 falls-1 x (one.line8 j k l) = tt
 falls-1 x (one.in8 j k l) = await-falls one.figure1 rank-1 (one.in8 j k l) (x .decided k) _ (λ a. no-stop)
 falls-1 x (one.line9 j k l) = λ e. lit≤ tt
-falls-1 x (one.line10 j k l) = test-falls one.figure1 rank-1 (one.line10 j k l) (known (x .prop j) && lowAgree k l j) (one.line11 j k l) (one.line9 j k l) (λ e. lit≤ tt) no-stop
+falls-1 x (one.line10 j k l) =
+    test-falls one.figure1 rank-1 (one.line10 j k l) (known (x .prop j) && lowAgree k l j) (one.line11 j k l) (one.line9 j k l) (λ e. lit≤ tt)
+    no-stop
 falls-1 x (one.line11 j k l) = λ e. lit≤ tt
 falls-1 x (one.line12 l) = no-stop
 falls-1 x (one.returned v) = tt
@@ -167,7 +172,9 @@ steady-1 i n f g d e m w (one.line8 j k l) t = tt
 steady-1 i n f g d e m w (one.in8 j k l) t = await-keeps one.figure1 (d k) (e k) _ (w k)
 steady-1 i n f g d e m w (one.line9 j k l) t = λ q. refl
 steady-1 i n f g d e m w (one.line10 j k l) t =
-    test-keeps one.figure1 (known (f j) && lowAgree k l j) (known (g j) && lowAgree k l j) (one.line11 j k l) (one.line9 j k l) (known-more (f j) (g j) (lowAgree k l j) (m j)) refl
+    test-keeps one.figure1 (known (f j) && lowAgree k l j) (known (g j) && lowAgree k l j) (one.line11 j k l) (one.line9 j k l)
+    (known-more (f j) (g j) (lowAgree k l j) (m j))
+    refl
 steady-1 i n f g d e m w (one.line11 j k l) t = λ q. refl
 steady-1 i n f g d e m w (one.line12 l) t = no-stop
 steady-1 i n f g d e m w (one.returned v) t = tt
@@ -246,7 +253,8 @@ equals-more d none b e m = no-stop (sym e)
 equals-more d (some v) b e m = ap (two.equals d) (sym (m v refl))
 
 -- line 10 leads to a stop either way
-until-keeps : (a b : Bool) (j k d : ℕ) → Keeps two.figure2 (goes (cond a (two.line11 j k d) (two.line9 j k d))) (goes (cond b (two.line11 j k d) (two.line9 j k d)))
+until-keeps : (a b : Bool) (j k d : ℕ)
+    → Keeps two.figure2 (goes (cond a (two.line11 j k d) (two.line9 j k d))) (goes (cond b (two.line11 j k d) (two.line9 j k d)))
 until-keeps true b j k d = no-stop
 until-keeps false b j k d = no-stop
 

@@ -39,7 +39,8 @@ shown-undelivered : (o : Opening) (st : State) (y : Figure-state o) → Shows o 
 shown-undelivered o st y h i j e = h .prop i j ∙ ap (λ (b : Bool). cond b (some (st .station j .own-claim)) none) (sym (h .delivered i j) ∙ e)
 
 -- and at line 11 of figure 2 it has prop[j], since a station that votes on the finish ballot holds its cursor's claim
-module _ (st : State) (holds : ℕ → Bool) (cast : ℕ → Option Bool) (f : ℕ → Option ℕ) (h : (t : ℕ) → f t ≡ cond (holds t) (some (claim-of st t)) none) (n : ℕ) where
+module _ (st : State) (holds : ℕ → Bool) (cast : ℕ → Option Bool) (f : ℕ → Option ℕ) (n : ℕ)
+    (h : (t : ℕ) → f t ≡ cond (holds t) (some (claim-of st t)) none) where
   ready-there : (q p : two.Place) → _≡_ {A = Option two.Place} (some q) (some p) → Ready-2 f q → Ready-2 f p
   ready-there q p e t = subst (Ready-2 f) (Option·some-injective q p e) t
 
@@ -54,13 +55,16 @@ module _ (st : State) (holds : ℕ → Bool) (cast : ℕ → Option Bool) (f : �
   ready-2 (finish-awaiting j k d) p ok e = ready-there _ p e tt
   ready-2 (decided v k) p ok e = ready-there _ p e tt
 
-  ready-by : (r : Rule) (g : Stage) (p : figure-by r .Place) → Stage-ok (record { count = n; rule = r }) st g holds cast → place-by r g ≡ some p → Ready-by r f p
+  ready-by : (r : Rule) (g : Stage) (p : figure-by r .Place) → Stage-ok (record { count = n; rule = r }) st g holds cast
+      → place-by r g ≡ some p → Ready-by r f p
   ready-by byStation g p ok e = tt
   ready-by byClaim g p ok e = ready-2 g p ok e
 
-shown-ready : (o : Opening) (st : State) (y : Figure-state o) → Inv o st → Shows o st y → (i : ℕ) → Ready-by (o .rule) (y .process i .prop) (y .process i .place)
+shown-ready : (o : Opening) (st : State) (y : Figure-state o) → Inv o st → Shows o st y → (i : ℕ)
+    → Ready-by (o .rule) (y .process i .prop) (y .process i .place)
 shown-ready o st y inv h i =
-    ready-by st (st .station i .holds) (st .station i .cast) (y .process i .prop) (h .prop i) (o .count) (o .rule) (st .station i .stage) (y .process i .place) (inv .parts i .stage) (h .place i)
+    ready-by st (st .station i .holds) (st .station i .cast) (y .process i .prop) (o .count) (h .prop i) (o .rule) (st .station i .stage)
+    (y .process i .place) (inv .parts i .stage) (h .place i)
 
 module _ (o : Opening) (ok : Accepts o) where
   -- the list with fewer STEPs, and the states that both lists end in
@@ -90,7 +94,9 @@ module _ (o : Opening) (ok : Accepts o) where
       go (inl s) = record {
         list = t .list ▷ e;
         thinned = kept e (t .thinned);
-        stands = subst (λ (z : Figure-state o). Stands (figure-of o) (o .count) (lines-after o (h ▷ e)) (stay z (takes (o .count) (event (figure-of o)) z e))) (sym (t .stands .back)) s;
+        stands =
+            subst (λ (z : Figure-state o). Stands (figure-of o) (o .count) (lines-after o (h ▷ e)) (stay z (takes (o .count) (event (figure-of o)) z e)))
+            (sym (t .stands .back)) s;
       }
       go (inr s) = record {
         list = t .list;
@@ -129,7 +135,10 @@ more-thinned zero i h g t = kept (step i) t
 more-thinned (suc m) i h g t = more-thinned m i h (g ▷ step i) (left-out i t)
 
 module _ (o : Opening) where
-  more-lines : (m i : ℕ) (g : History) → lines-after o (more-steps m i g) ≡ turns (figure-of o) (Ready-by (o .rule)) (lawful (o .rule)) (o .count) m i (lines-after o g)
+  abbrev turns-of : ℕ → ℕ → Figure-state o → Figure-state o
+  turns-of m i x = turns (figure-of o) (Ready-by (o .rule)) (lawful (o .rule)) (o .count) m i x
+
+  more-lines : (m i : ℕ) (g : History) → lines-after o (more-steps m i g) ≡ turns-of m i (lines-after o g)
   unfolding more-steps run turns
   more-lines zero i g = refl
   more-lines (suc m) i g = more-lines m i (g ▷ step i)
@@ -153,15 +162,19 @@ module _ (o : Opening) where
       let w = spread (figure-of o) (Ready-by (o .rule)) (lawful (o .rule)) (o .count) (figure-after o h) i in (
         more-steps (w .0) i (t .0),
         more-thinned (w .0) i h (t .0) (t .1),
-        more-lines (w .0) i (t .0) ∙ (ap (turns (figure-of o) (Ready-by (o .rule)) (lawful (o .rule)) (o .count) (w .0) i) (t .2) ∙ w .1),
+        more-lines (w .0) i (t .0) ∙ (ap (turns-of (w .0) i) (t .2) ∙ w .1),
       )
 
   spread-next : (h : History) (e : Event) → Spread-list h → Spread-list (h ▷ e)
-  spread-next h (claim s v) t = spread-same h (claim s v) (λ x. claimed-alike (figure-of o) (Ready-by (o .rule)) (lawful (o .rule)) (o .count) x s v) t
-  spread-next h (deliver t s) l = spread-same h (deliver t s) (λ x. delivered-alike (figure-of o) (Ready-by (o .rule)) (lawful (o .rule)) (o .count) x t s) l
+  spread-next h (claim s v) t =
+      spread-same h (claim s v) (λ x. claimed-alike (figure-of o) (Ready-by (o .rule)) (lawful (o .rule)) (o .count) x s v) t
+  spread-next h (deliver t s) l =
+      spread-same h (deliver t s) (λ x. delivered-alike (figure-of o) (Ready-by (o .rule)) (lawful (o .rule)) (o .count) x t s) l
   spread-next h (step s) t = spread-step h s t
-  spread-next h (lose s) t = spread-same h (lose s) (λ x. lost-alike (figure-of o) (Ready-by (o .rule)) (lawful (o .rule)) (o .count) x s) t
-  spread-next h (answer b a) t = spread-same h (answer b a) (λ x. answered-alike (figure-of o) (Ready-by (o .rule)) (lawful (o .rule)) (o .count) x b a) t
+  spread-next h (lose s) t =
+      spread-same h (lose s) (λ x. lost-alike (figure-of o) (Ready-by (o .rule)) (lawful (o .rule)) (o .count) x s) t
+  spread-next h (answer b a) t =
+      spread-same h (answer b a) (λ x. answered-alike (figure-of o) (Ready-by (o .rule)) (lawful (o .rule)) (o .count) x b a) t
 
   spread-list : (h : History) → Spread-list h
   unfolding run

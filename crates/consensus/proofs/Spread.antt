@@ -66,7 +66,9 @@ module _ (F : Figure) (Ready : (ℕ → Option ℕ) → F .Place → Type 0) (la
         )
       where
         Turned : Process (F .Place) → System (F .Place)
-        Turned q = stay (on p) (provided (ltb i n && not (q .crashed)) (with-process (on p) i (advance-by q (F .line (seen i n (q .prop) (x .decision)) (q .place)))))
+        Turned q =
+            stay (on p)
+            (provided (ltb i n && not (q .crashed)) (with-process (on p) i (advance-by q (F .line (seen i n (q .prop) (x .decision)) (q .place)))))
 
         go : (d : Does (F .Place)) → Moving F d → stay (on p) (with-process (on p) i (advance-by (moved p me) d)) ≡ by d
         go blocked m = absurd m
@@ -152,6 +154,8 @@ module _ (F : Figure) (Ready : (ℕ → Option ℕ) → F .Place → Type 0) (la
   unfolding happens
   answered-alike x b a = go (not (ltb 1 a))
     where
-      go : (c : Bool) → stay x (then (provided c (some (decide b (eqb a 1)))) (happens n (F .line) x)) ≡ stay x (then (provided c (some (decide b (eqb a 1)))) (happens n (event F) x))
+      go : (c : Bool)
+          → stay x (then (provided c (some (decide b (eqb a 1)))) (happens n (F .line) x))
+          ≡ stay x (then (provided c (some (decide b (eqb a 1)))) (happens n (event F) x))
       go true = refl
       go false = refl

@@ -36,7 +36,8 @@ line x line5 = await (x .prop (x .self)) (λ v. goes line6)
 line x line6 = goes (line7 (x .self) 0 0)
 -- 7 repeat
 line x (line7 j k d) = goes (line8 j k d)
--- 8 d[k] ← B-Consensus[0][k](prop[j][k]): the call, and its return. ⊥ has no bits: a process that met it here could do nothing (demand 2 says that none does)
+-- 8 d[k] ← B-Consensus[0][k](prop[j][k]): the call, and its return. ⊥ has no bits, so a process that met it here could do nothing;
+-- that none ever does is part of demand 2
 line x (line8 j k d) = await (x .prop j) (λ v. proposes (2 * k) (bit k v) (in8 j k d))
 line x (in8 j k d) = await (x .decided (2 * k)) (λ a. goes (line9 j k (withBit k a d)))
 -- 9 repeat j ← (j + 1) mod n
