@@ -54,35 +54,34 @@ module _ (n : ℕ) (st : State) (s : ℕ) where
   is d e = Alike place-1 d e
 
   -- line 12: prop[l] is the claim of j where l equals j
-  end-1 : (m v k : ℕ) → is (goes (decided v k)) (onward figure1 m x (goes (returned v)))
+  end-1 : (m v k : ℕ) (w : Option ℕ) → some v ≡ w → is (goes (decided v k)) (onward figure1 m x (goes (returned w)))
   unfolding onward
-  end-1 zero v k = both-go refl
-  end-1 (suc m) v k = both-go refl
+  end-1 zero v k w e = both-go (ap (λ (u : Option ℕ). some (returned u)) e)
+  end-1 (suc m) v k w e = both-go (ap (λ (u : Option ℕ). some (returned u)) e)
 
-  return-1 : (m j l k : ℕ) → l ≡ j → held st s j ≡ true
-      → is (goes (decided (claim-of st j) k)) (onward figure1 m x (await (x .prop l) (λ w. goes (returned w))))
-  return-1 m j l k e h =
-      subst (λ (i : ℕ). Returns (cond (held st s i) (some (claim-of st i)) none)) (sym e)
-      (subst (λ (b : Bool). Returns (cond b (some (claim-of st j)) none)) (sym h) (end-1 m (claim-of st j) k))
-    where
-      Returns : Option ℕ → Type 0
-      Returns v = is (goes (decided (claim-of st j) k)) (onward figure1 m x (await v (λ w. goes (returned w))))
+  prop-of : (j l : ℕ) → l ≡ j → held st s j ≡ true → some (claim-of st j) ≡ x .prop l
+  prop-of j l e h = sym (ap (x .prop) e ∙ ap (λ (b : Bool). cond b (some (claim-of st j)) none) h)
 
   -- line 7 on to 8, or on to 12 where no round is left
   for-1 : (m : ℕ) (last more : Bool) (j i k l : ℕ) → (more ≡ true → last ≡ false) → (more ≡ false → (last ≡ true) × (l ≡ j)) → held st s j ≡ true
       → is (goes (cond last (decided (claim-of st j) i) (voting j k l))) (onward figure1 (suc m) x (goes (cond more (line8 j k l) (line12 l))))
   unfolding onward line
-  for-1 m last true j i k l on off h = subst (λ (b : Bool). is (goes (cond b (decided (claim-of st j) i) (voting j k l))) (goes (line8 j k l))) (sym (on refl)) (both-go refl)
+  for-1 m last true j i k l on off h =
+      subst (λ (b : Bool). is (goes (cond b (decided (claim-of st j) i) (voting j k l))) (goes (line8 j k l))) (sym (on refl))
+      (both-go refl)
   for-1 m last false j i k l on off h =
       subst (λ (b : Bool). is (goes (cond b (decided (claim-of st j) i) (voting j k l))) (onward figure1 m x (line x (line12 l)))) (sym (off refl .0))
-      (return-1 m j l i (off refl .1) h)
+      (end-1 m (claim-of st j) i (x .prop l) (prop-of j l (off refl .1) h))
 
   -- lines 5 and 6
   wait-1 : (b : Bool) → b ≡ held st s s → (b ≡ true → s < n) → 1 ≤ n
       → is (cond b (goes (first-stage byStation n s (claim-of st s))) blocked) (onward figure1 4 x (await (cond b (some (claim-of st s)) none) (λ v. goes line6)))
   unfolding onward line
   wait-1 false e l p = both-blocked
-  wait-1 true e l p = for-1 1 (eqb n 1) (ltb 0 (ceilLog2 n)) s 0 0 0 (λ more. ne-eqb n 1 (rounds-more n more)) (λ less. let one = rounds-one n p less in let small = l refl in (eq-eqb n 1 one, omega arith)) (sym e)
+  wait-1 true e l p =
+      for-1 1 (eqb n 1) (ltb 0 (ceilLog2 n)) s 0 0 0 (λ more. ne-eqb n 1 (rounds-more n more))
+      (λ less. let one = rounds-one n p less in let small = l refl in (eq-eqb n 1 one, omega arith))
+      (sym e)
 
   -- line 10, and 11 where the loop ends
   until-1 : (b fit : Bool) (j k l : ℕ) → b ≡ held st s j → fit ≡ lowAgree k l j → k < ceilLog2 n → ((i : ℕ) → suc k ≤ i → bit i l ≡ false) → j < n
@@ -118,7 +117,10 @@ module _ (n : ℕ) (st : State) (s : ℕ) where
   alike-1 pos waiting p mine ok e = stands line5 p _ e (wait-1 (held st s s) refl mine pos)
   alike-1 pos (voting j k l) p mine ok e = stands (line8 j k l) p _ e (both-propose refl)
   alike-1 pos (awaiting j k l) p mine ok e = stands (in8 j k l) p _ e (return-8 (st .answer-of k) j k l)
-  alike-1 pos (seeking j k l) p mine ok e = stands (line9 j k l) p _ e (until-1 (held st s ((j + 1) % n)) (lowAgree k l ((j + 1) % n)) ((j + 1) % n) k l refl refl (ok .round) (ok .word .above) (mod-lt _ pos))
+  alike-1 pos (seeking j k l) p mine ok e =
+      let next : ℕ = (j + 1) % n in
+      stands (line9 j k l) p _ e
+      (until-1 (held st s next) (lowAgree k l next) next k l refl refl (ok .round) (ok .word .above) (mod-lt (j + 1) pos))
   alike-1 pos (finish-voting j k d) p mine ok e = absurd (Option·none-ne-some p e)
   alike-1 pos (finish-awaiting j k d) p mine ok e = absurd (Option·none-ne-some p e)
-  alike-1 pos (decided v k) p mine ok e = stands (returned v) p _ e both-blocked
+  alike-1 pos (decided v k) p mine ok e = stands (returned (some v)) p _ e both-blocked

@@ -2,7 +2,7 @@
 -- so the number there is the claim of j, and line 10's test is the play's. Assumes nothing.
 use Prim.Native.Nat.{ℕ, suc, _+_, _*_, _%_, _<_, _≤_}
 use mathlib.Core.Path.{_≡_, refl, sym, subst}
-use mathlib.Core.Bool.{Bool, true, false, cond, _&&_}
+use mathlib.Core.Bool.{Bool, true, false, cond, _&&_, true≢false}
 use mathlib.Core.Option.{Option, none, some, Option·some-injective}
 use lib.Dec.{eqb}
 use Rattle.bits.specs.Digits.{bit}
@@ -11,7 +11,7 @@ use Rattle.consensus.specs.Events.{Opening, byClaim}
 use Rattle.consensus.specs.State.{Stage, idle, waiting, voting, awaiting, seeking, finish-voting, finish-awaiting, decided, State, claim-of, held}
 use Rattle.consensus.specs.Rules.{finished}
 use Rattle.consensus.specs.Figure.{View, Does, blocked, goes, broadcasts, proposes, await, onward, event}
-use Rattle.consensus.specs.Figure2.{Place, line4, line5, line6, line7, line8, in8, line9, line10, line11, line12, in12, line13, returned, fits, line, figure2}
+use Rattle.consensus.specs.Figure2.{Place, line4, line5, line6, line7, line8, in8, line9, line10, line11, line12, in12, line13, returned, fits, equals, line, figure2}
 use Rattle.consensus.specs.Demand2.{place-2}
 use Rattle.consensus.proofs.Invariant.{Spelling, Stage-ok}
 use Rattle.consensus.proofs.Alike.{Alike, both-blocked, both-go, both-broadcast, both-propose, play-view, does-at}
@@ -34,9 +34,8 @@ module _ (n : ℕ) (st : State) (s : ℕ) where
   vote-2 : (b : Bool) (v j k d : ℕ) → b ≡ true
       → is (proposes (2 * k) (bit k v) (awaiting j k d)) (onward figure2 4 x (await (cond b (some v) none) (λ w. proposes (2 * k) (bit k w) (in8 j k d))))
   unfolding onward
-  vote-2 b v j k d e =
-      subst (λ (c : Bool). is (proposes (2 * k) (bit k v) (awaiting j k d)) (onward figure2 4 x (await (cond c (some v) none) (λ w. proposes (2 * k) (bit k w) (in8 j k d))))) (sym e)
-      (both-propose refl)
+  vote-2 true v j k d e = both-propose refl
+  vote-2 false v j k d e = absurd (true≢false (sym e))
 
   return-8 : (a : Option Bool) (j k d : ℕ)
       → is (await a (λ b. goes (seeking j k (withBit k b d)))) (onward figure2 4 x (await a (λ b. goes (line9 j k (withBit k b d)))))
@@ -44,22 +43,23 @@ module _ (n : ℕ) (st : State) (s : ℕ) where
   return-8 none j k d = both-blocked
   return-8 (some b) j k d = both-go refl
 
-  until-go : (b : Bool) (j k d : ℕ) → is (goes (cond b (finish-voting j k d) (seeking j k d))) (onward figure2 3 x (goes (cond b (line11 j k d) (line9 j k d))))
+  until-go : (b : Bool) (j k d : ℕ)
+      → is (goes (cond b (finish-voting j k d) (seeking j k d))) (onward figure2 3 x (goes (cond b (line11 j k d) (line9 j k d))))
   unfolding onward
   until-go true j k d = both-go refl
   until-go false j k d = both-go refl
 
   until-2 : (b : Bool) (v j k d : ℕ)
-      → is (goes (cond (b && lowAgree k d v) (finish-voting j k d) (seeking j k d))) (onward figure2 3 x (goes (cond (fits k d (cond b (some v) none)) (line11 j k d) (line9 j k d))))
+      → is (goes (cond (b && lowAgree k d v) (finish-voting j k d) (seeking j k d)))
+      (onward figure2 3 x (goes (cond (fits k d (cond b (some v) none)) (line11 j k d) (line9 j k d))))
   until-2 true v j k d = until-go (lowAgree k d v) j k d
   until-2 false v j k d = until-go false j k d
 
   finish-2 : (b : Bool) (v j k d : ℕ) → b ≡ true
-      → is (proposes (2 * k + 1) (eqb d v) (finish-awaiting j k d)) (onward figure2 4 x (await (cond b (some v) none) (λ w. goes (line12 (eqb d w) j k d))))
+      → is (proposes (2 * k + 1) (eqb d v) (finish-awaiting j k d)) (onward figure2 4 x (goes (line12 (equals d (cond b (some v) none)) j k d)))
   unfolding onward line
-  finish-2 b v j k d e =
-      subst (λ (c : Bool). is (proposes (2 * k + 1) (eqb d v) (finish-awaiting j k d)) (onward figure2 4 x (await (cond c (some v) none) (λ w. goes (line12 (eqb d w) j k d))))) (sym e)
-      (both-propose refl)
+  finish-2 true v j k d e = both-propose refl
+  finish-2 false v j k d e = absurd (true≢false (sym e))
 
   return-12 : (a : Option Bool) (j k d : ℕ)
       → is (await a (λ r. goes (finished r j k d))) (onward figure2 4 x (await a (λ r. goes (line13 r j k d))))

@@ -11,7 +11,8 @@ use Rattle.consensus.specs.Words.{Claims-fit}
 use Rattle.consensus.specs.Figure.{Figure, event}
 use Rattle.consensus.specs.Figure1 as one
 use Rattle.consensus.specs.Figure2 as two
-use Rattle.consensus.specs.System.{System, takes, run}
+use Rattle.consensus.specs.System.{System}
+use Rattle.consensus.specs.Runs.{Label, label-of, takes, run}
 
 abbrev pub figure-by : Rule → Figure
 figure-by byStation = one.figure1
@@ -20,7 +21,7 @@ figure-by byClaim = two.figure2
 abbrev pub figure-of : Opening → Figure
 figure-of o = figure-by (o .rule)
 
--- the place that a stage stands for; figure 1 has no finish instances
+-- the place that a stage stands for; figure 1 has no finish instances. Figure 1 returns prop[l], which is the decided claim and never ⊥
 abbrev pub place-1 : Stage → Option one.Place
 place-1 idle = some one.line4
 place-1 waiting = some one.line5
@@ -29,7 +30,7 @@ place-1 (awaiting j k l) = some (one.in8 j k l)
 place-1 (seeking j k l) = some (one.line9 j k l)
 place-1 (finish-voting j k d) = none
 place-1 (finish-awaiting j k d) = none
-place-1 (decided v k) = some (one.returned v)
+place-1 (decided v k) = some (one.returned (some v))
 
 abbrev pub place-2 : Stage → Option two.Place
 place-2 idle = some two.line4
@@ -49,7 +50,7 @@ module _ (o : Opening) where
   abbrev pub Figure-state : Type 0
   Figure-state = System (figure-of o .Place)
 
-  -- the figure's state x shows the play's state st
+  -- the figure's state x shows the play's state st; a number from n on names no process and no station, and nothing happens there
   pub record Shows (st : State) (x : Figure-state) : Type 0 where
     pub place : (s : ℕ) → place-by (o .rule) (st .station s .stage) ≡ some (x .process s .place)
     -- prop[t] at s is the claim of t where s holds it, and ⊥ elsewhere; what was sent is what was put in
@@ -78,3 +79,6 @@ module _ (o : Opening) where
 -- Demand 2 about the play: every accepted opening, both rules, every list of events whose claims are claims.
 pub record Demand2 : Type 0 where
   pub holds : (o : Opening) → Accepts o → (h : History) → Claims-fit h → Demand2-of o h
+  -- the events leave out nothing that may happen, and a labelled step has one outcome
+  pub every-label : (l : Label) → (e : Event) × (label-of e ≡ some l)
+  pub one-outcome : (o : Opening) (x y z : Figure-state o) (e : Event) → Step o x e y → Step o x e z → y ≡ z

@@ -19,7 +19,7 @@ pub data Does (P : Type 0) : Type 0 where
   broadcasts : P → Does P
   proposes : ℕ → Bool → P → Does P
 
--- a line that needs something goes on once it is there: "wait until", the return of a call, the number in prop[j]
+-- a line that needs something goes on once it is there: "wait until", the return of a call, a bit of prop[j]
 abbrev pub await : {A P : Type 0} → Option A → (A → Does P) → Does P
 await none f = blocked
 await (some a) f = f a

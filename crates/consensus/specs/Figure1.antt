@@ -14,7 +14,7 @@ pub data Place : Type 0 where
   line4 line5 line6 : Place
   line7 line8 in8 line9 line10 line11 : ℕ → ℕ → ℕ → Place
   line12 : ℕ → Place
-  returned : ℕ → Place
+  returned : Option ℕ → Place
 
 unfoldable pub line : View → Place → Does Place
 -- 4 UR-Broadcast(v_i)
@@ -34,8 +34,8 @@ line x (line9 j k l) = goes (line10 ((j + 1) % x .count) k l)
 line x (line10 j k l) = goes (cond (known (x .prop j) && lowAgree k l j) (line11 j k l) (line9 j k l))
 -- 11 endfor
 line x (line11 j k l) = goes (line7 j (suc k) l)
--- 12 return prop[l]; ⊥ would be no value to return, and is never met
-line x (line12 l) = await (x .prop l) (λ v. goes (returned v))
+-- 12 return prop[l]
+line x (line12 l) = goes (returned (x .prop l))
 line x (returned v) = blocked
 
 -- Where one event ends. A STEP covers 5-6-7(-12), the call of 8, its return, or 9-10(-11-7(-12)).

@@ -21,6 +21,11 @@ abbrev pub fits : ℕ → ℕ → Option ℕ → Bool
 fits k d none = false
 fits k d (some v) = lowAgree k d v
 
+-- d = prop[j], in line 11: no number equals ⊥
+abbrev pub equals : ℕ → Option ℕ → Bool
+equals d none = false
+equals d (some v) = eqb d v
+
 -- the binary instances are numbered: B-Consensus[0][k] is 2k, B-Consensus[1][k] is 2k + 1
 unfoldable pub line : View → Place → Does Place
 -- 4 UR-Broadcast(v_i)
@@ -31,15 +36,16 @@ line x line5 = await (x .prop (x .self)) (λ v. goes line6)
 line x line6 = goes (line7 (x .self) 0 0)
 -- 7 repeat
 line x (line7 j k d) = goes (line8 j k d)
--- 8 d[k] ← B-Consensus[0][k](prop[j][k]): the call, and its return; ⊥ has no bit, and is never met
+-- 8 d[k] ← B-Consensus[0][k](prop[j][k]): the call, and its return. ⊥ has no bits, so a process that met it here could do nothing;
+-- that none ever does is part of demand 2
 line x (line8 j k d) = await (x .prop j) (λ v. proposes (2 * k) (bit k v) (in8 j k d))
 line x (in8 j k d) = await (x .decided (2 * k)) (λ a. goes (line9 j k (withBit k a d)))
 -- 9 repeat j ← (j + 1) mod n
 line x (line9 j k d) = goes (line10 ((j + 1) % x .count) k d)
 -- 10 until [prop[j] ≠ ⊥ and d[k..0] = prop[j][k..0]]
 line x (line10 j k d) = goes (cond (fits k d (x .prop j)) (line11 j k d) (line9 j k d))
--- 11 if d = prop[j] then finish = 1 else finish = 0; ⊥ is no number to compare, and is never met
-line x (line11 j k d) = await (x .prop j) (λ v. goes (line12 (eqb d v) j k d))
+-- 11 if d = prop[j] then finish = 1 else finish = 0
+line x (line11 j k d) = goes (line12 (equals d (x .prop j)) j k d)
 -- 12 r ← B-Consensus[1][k](finish): the call, and its return
 line x (line12 finish j k d) = proposes (2 * k + 1) finish (in12 j k d)
 line x (in12 j k d) = await (x .decided (2 * k + 1)) (λ r. goes (line13 r j k d))

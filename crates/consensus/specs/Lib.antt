@@ -7,8 +7,10 @@
 --     Figure      one process of a figure: a line, and an event made of lines
 --     Figure1     the paper's figure 1, line by line
 --     Figure2     the paper's figure 2, line by line
---     System      processes that may crash, broadcast and binary consensus instances; the runs of a figure
+--     System      processes that may crash, broadcasts and binary consensus instances
+--     Runs        what may happen in the system, and the runs of a figure
 --     Demand2     demand 2 about the play
+--     Lines       runs of single printed lines end where the play ends
 --     Examples    lists that tell the four false readings apart
 pub mod Events
 pub mod State
@@ -19,5 +21,7 @@ pub mod Figure
 pub mod Figure1
 pub mod Figure2
 pub mod System
+pub mod Runs
 pub mod Demand2
+pub mod Lines
 pub mod Examples

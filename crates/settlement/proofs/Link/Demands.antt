@@ -22,7 +22,7 @@ use Rattle.consensus.specs.Words.{decision, voted-in, Decided, Claims-fit}
 use Rattle.consensus.proofs.Basics.{by-bool, no-clash}
 use Rattle.consensus.proofs.Invariant as invariant
 use Rattle.consensus.proofs.Reached.{reached}
-use Rattle.consensus.proofs.Bounds.{Small, reached-small}
+use Rattle.consensus.proofs.Ballots.{Short, round-below}
 use Rattle.consensus.proofs.Told.{stage-after, voted-shown, decided-shown, shown-decided}
 use Rattle.consensus.proofs.Agree.{length-up-to}
 use Rattle.consensus.proofs.Demand3 as play-proofs
@@ -85,20 +85,20 @@ fresh-linked o a = record {
 -- ---- lists
 
 module _ (o : Opening) (a : Accepts o) where
-  next-linked : (r : Settlement) (st : play.State) → Linked o r st → invariant.Inv o st → Small st → (e : Event)
+  next-linked : (r : Settlement) (st : play.State) → Linked o r st → invariant.Inv o st → Short o st → (e : Event)
       → Linked o (played r e .settlement) (rules.next o st e)
   unfolding played outcome rules.next
-  next-linked r st l inv small e =
-      let same = number-same o a r st l inv small e in
+  next-linked r st l inv short e =
+      let same = number-same o a r st l inv short e in
       subst (λ (k : ℕ). Linked o (cond (eqb k 0) (next r e) r) (cond (eqb (rules.number o st e) 0) (rules.effect o st e) st)) (sym same)
       (by-bool (eqb (rules.number o st e) 0)
-      (λ t. subst (λ (b : Bool). Linked o (cond b (next r e) r) (cond b (rules.effect o st e) st)) (sym t) (effect-linked o a r st l inv small e (eqb-true _ 0 t)))
+      (λ t. subst (λ (b : Bool). Linked o (cond b (next r e) r) (cond b (rules.effect o st e) st)) (sym t) (effect-linked o a r st l inv short e (eqb-true _ 0 t)))
       (λ t. subst (λ (b : Bool). Linked o (cond b (next r e) r) (cond b (rules.effect o st e) st)) (sym t) l))
 
   pub linked-after : (h : History) → Claims-fit h → Linked o (record-after o h) (rules.after o h)
   unfolding record-after rules.after
   linked-after start f = subst (λ x. Linked o (x .settlement) play.fresh) (sym (opened-fresh o a)) (fresh-linked o a)
-  linked-after (h ▷ e) f = next-linked (record-after o h) (rules.after o h) (linked-after h (f .0)) (reached o h) (reached-small o h (f .0)) e
+  linked-after (h ▷ e) f = next-linked (record-after o h) (rules.after o h) (linked-after h (f .0)) (reached o h) (round-below o h (f .0)) e
 
 -- ---- LOOK
 
@@ -142,7 +142,7 @@ module _ (o : Opening) (a : Accepts o) (h : History) (f : Claims-fit h) where
   linked = linked-after o a h f
 
   clear : fault r ≡ false
-  clear = faultless o a r (rules.after o h) linked (reached o h) (reached-small o h f)
+  clear = faultless o a r (rules.after o h) linked (reached o h) (round-below o h f)
 
   look-number : (s : ℕ) → first-met (look-tests r s) ≡ refuse (no-station r s) 1 0
   unfolding first-met
@@ -206,7 +206,7 @@ module _ (o : Opening) (a : Accepts o) (h : History) (f : Claims-fit h) where
 
   numbers : (e : Event) → played r e .number ≡ rules.number o (rules.after o h) e
   unfolding played outcome
-  numbers e = number-same o a r (rules.after o h) linked (reached o h) (reached-small o h f) e
+  numbers e = number-same o a r (rules.after o h) linked (reached o h) (round-below o h f) e
 
   told : Told o h
   told = record { numbers = numbers; look-decided = look-decided; look-undecided = look-undecided; look-nobody = look-outside }

@@ -21,7 +21,7 @@ use Rattle.consensus.specs.Rules.{finish-ballot, as-bit, spelled-by, stage-numb
 use Rattle.consensus.proofs.Basics.{by-bool, cond-ind, no-clash, update-ind, not-false→true, refused-not}
 use Rattle.consensus.proofs.Invariant.{Stage-ok, Part-ok, Inv}
 use Rattle.consensus.proofs.Own.{moved as part-moved}
-use Rattle.consensus.proofs.Bounds.{Small, bit-below, finish-ballot-below}
+use Rattle.consensus.proofs.Ballots.{Short, bit-below, finish-ballot-below}
 use Rattle.consensus.proofs.Spelling.{unfinished-of}
 use Rattle.consensus.proofs.Steps.{opening, some-answer, idle-refused, decided-refused}
 use Rattle.consensus.proofs.Reached.{claim-accepted, deliver-accepted, step-accepted, lose-accepted, answer-accepted}
@@ -61,7 +61,7 @@ spelled-same-by : (r : Rule) (st : play.State) (j v : ℕ) → v ≡ play.claim-
 spelled-same-by byStation st j v e = refl
 spelled-same-by byClaim st j v e = e
 
-module _ (o : Opening) (a : Accepts o) (r : Settlement) (st : play.State) (l : Linked o r st) (inv : Inv o st) (small : Small st) where
+module _ (o : Opening) (a : Accepts o) (r : Settlement) (st : play.State) (l : Linked o r st) (inv : Inv o st) (short : Short o st) where
   abbrev n : ℕ
   n = o .count
 
@@ -154,7 +154,7 @@ module _ (o : Opening) (a : Accepts o) (r : Settlement) (st : play.State) (l : L
     unfolding stepped rules.step-from
     from-voting e y z =
         votes Awaiting _ (bit-ballot r (t .round)) (rules.bit-ballot o (t .round)) _ _ (ballot-of-round o a r st l inv (t .round)) (ap (bit (t .round)) (spelled-same (t .cursor) (x .cursor))) refl tt
-        (bit-below o st inv small (o .rule) refl (t .round) (y .stage .round))
+        (bit-below o st short (t .round) (y .stage .round))
         (y .uncast _ (le-refl _))
 
     from-awaiting : Step-linked Awaiting
@@ -172,7 +172,7 @@ module _ (o : Opening) (a : Accepts o) (r : Settlement) (st : play.State) (l : L
     unfolding stepped rules.step-from
     from-finish-voting e y z =
         votes FinishAwaiting _ (finish-ballot (t .round)) (finish-ballot (t .round)) _ _ refl (ap (eqb (t .word)) (l .entries (t .cursor) (x .cursor) .claim)) refl tt
-        (finish-ballot-below o st inv small (y .stage .0) (t .round) (unfinished-of o st (y .stage .0) (t .round) (y .stage .1 .round)))
+        (finish-ballot-below o st short (y .stage .0) (t .round) (unfinished-of o st (y .stage .0) (t .round) (y .stage .1 .round)))
         (y .uncast _ (le-refl _))
 
     -- a choice between two moves is made alike on both sides

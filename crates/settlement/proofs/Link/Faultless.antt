@@ -13,7 +13,7 @@ use Rattle.consensus.specs.State as play
 use Rattle.consensus.specs.Rules.{any-below}
 use Rattle.consensus.proofs.Basics.{by-bool, no-clash, any-found}
 use Rattle.consensus.proofs.Invariant.{Stage-ok, Inv}
-use Rattle.consensus.proofs.Bounds.{Small, round-below}
+use Rattle.consensus.proofs.Ballots.{Short}
 use Rattle.consensus.proofs.Supplied.{no-such-rule}
 use Rattle.consensus.proofs.Steps.{opening}
 use Rattle.settlement.specs.declared.record.Stage.{Stage}
@@ -33,24 +33,24 @@ abbrev Rounds : Rule → ℕ → Stage → ℕ → Type 0
 Rounds byStation n g k = ((in-round g && leb (ceilLog2 n) k) ≡ false) × (on-finish g ≡ false)
 Rounds byClaim n g k = (past-waiting g && leb claimBits k) ≡ false
 
-rounds-ok : (n : ℕ) (r : Rule) (st : play.State) → Inv (opening n r) st → Small st → (g : Stage) (j k d v : ℕ) (holds : ℕ → Bool) (cast : ℕ → Option Bool)
+rounds-ok : (n : ℕ) (r : Rule) (st : play.State) → Inv (opening n r) st → Short (opening n r) st → (g : Stage) (j k d v : ℕ) (holds : ℕ → Bool) (cast : ℕ → Option Bool)
     → Stage-ok (opening n r) st (stage-of g j k d v) holds cast → Rounds r n g k
-rounds-ok n byStation st inv small Idle j k d v holds cast x = (refl, refl)
-rounds-ok n byStation st inv small Waiting j k d v holds cast x = (refl, refl)
-rounds-ok n byStation st inv small Voting j k d v holds cast x = (lt-leb _ k (x .round), refl)
-rounds-ok n byStation st inv small Awaiting j k d v holds cast x = (lt-leb _ k (x .0 .round), refl)
-rounds-ok n byStation st inv small Seeking j k d v holds cast x = (lt-leb _ k (x .round), refl)
-rounds-ok n byStation st inv small FinishVoting j k d v holds cast x = absurd (no-such-rule (x .0))
-rounds-ok n byStation st inv small FinishAwaiting j k d v holds cast x = absurd (no-such-rule (x .0))
-rounds-ok n byStation st inv small Decided j k d v holds cast x = (refl, refl)
-rounds-ok n byClaim st inv small Idle j k d v holds cast x = refl
-rounds-ok n byClaim st inv small Waiting j k d v holds cast x = refl
-rounds-ok n byClaim st inv small Voting j k d v holds cast x = lt-leb _ k (round-below (opening n byClaim) st inv small refl k (x .round))
-rounds-ok n byClaim st inv small Awaiting j k d v holds cast x = lt-leb _ k (round-below (opening n byClaim) st inv small refl k (x .0 .round))
-rounds-ok n byClaim st inv small Seeking j k d v holds cast x = lt-leb _ k (round-below (opening n byClaim) st inv small refl k (x .round))
-rounds-ok n byClaim st inv small FinishVoting j k d v holds cast x = lt-leb _ k (round-below (opening n byClaim) st inv small refl k (x .1 .round))
-rounds-ok n byClaim st inv small FinishAwaiting j k d v holds cast x = lt-leb _ k (round-below (opening n byClaim) st inv small refl k (x .1 .round))
-rounds-ok n byClaim st inv small Decided j k d v holds cast x = lt-leb _ k (round-below (opening n byClaim) st inv small refl k (x .4))
+rounds-ok n byStation st inv short Idle j k d v holds cast x = (refl, refl)
+rounds-ok n byStation st inv short Waiting j k d v holds cast x = (refl, refl)
+rounds-ok n byStation st inv short Voting j k d v holds cast x = (lt-leb _ k (x .round), refl)
+rounds-ok n byStation st inv short Awaiting j k d v holds cast x = (lt-leb _ k (x .0 .round), refl)
+rounds-ok n byStation st inv short Seeking j k d v holds cast x = (lt-leb _ k (x .round), refl)
+rounds-ok n byStation st inv short FinishVoting j k d v holds cast x = absurd (no-such-rule (x .0))
+rounds-ok n byStation st inv short FinishAwaiting j k d v holds cast x = absurd (no-such-rule (x .0))
+rounds-ok n byStation st inv short Decided j k d v holds cast x = (refl, refl)
+rounds-ok n byClaim st inv short Idle j k d v holds cast x = refl
+rounds-ok n byClaim st inv short Waiting j k d v holds cast x = refl
+rounds-ok n byClaim st inv short Voting j k d v holds cast x = lt-leb _ k (short refl k (x .round))
+rounds-ok n byClaim st inv short Awaiting j k d v holds cast x = lt-leb _ k (short refl k (x .0 .round))
+rounds-ok n byClaim st inv short Seeking j k d v holds cast x = lt-leb _ k (short refl k (x .round))
+rounds-ok n byClaim st inv short FinishVoting j k d v holds cast x = lt-leb _ k (short refl k (x .1 .round))
+rounds-ok n byClaim st inv short FinishAwaiting j k d v holds cast x = lt-leb _ k (short refl k (x .1 .round))
+rounds-ok n byClaim st inv short Decided j k d v holds cast x = lt-leb _ k (short refl k (x .4))
 
 station-clear : (r : Rule) (n : ℕ) (t : Station) → t .cursor < n → Rounds r n (t .stage) (t .round) → station-fault n (rule-number r) t ≡ false
 unfolding station-fault
@@ -64,13 +64,13 @@ pub rule-known : (r : Rule) → not (eqb (rule-number r) 1 || eqb (rule-number r
 rule-known byStation = refl
 rule-known byClaim = refl
 
-module _ (o : Opening) (a : Accepts o) (r : Settlement) (st : play.State) (l : Linked o r st) (inv : Inv o st) (small : Small st) where
+module _ (o : Opening) (a : Accepts o) (r : Settlement) (st : play.State) (l : Linked o r st) (inv : Inv o st) (short : Short o st) where
   entry-clear : (s : ℕ) → s < o .count → station-fault (o .count) (rule-number (o .rule)) (entry r s) ≡ false
   entry-clear s b =
       let t = entry r s in
       let x = l .entries s b in
       station-clear (o .rule) (o .count) t (x .cursor)
-      (rounds-ok (o .count) (o .rule) st inv small (t .stage) (t .cursor) (t .round) (t .word) (t .decision) (st .station s .holds) (st .station s .cast)
+      (rounds-ok (o .count) (o .rule) st inv short (t .stage) (t .cursor) (t .round) (t .word) (t .decision) (st .station s .holds) (st .station s .cast)
       (subst (λ (g : play.Stage). Stage-ok o st g (st .station s .holds) (st .station s .cast)) (sym (x .stage)) (inv .parts s .stage)))
 
   pub faultless : fault r ≡ false

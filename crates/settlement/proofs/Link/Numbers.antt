@@ -17,7 +17,7 @@ use Rattle.consensus.specs.Rules as rules
 use Rattle.consensus.specs.Rules.{refuse, finish-ballot, last-refusal, as-bit, bit-ballot-by}
 use Rattle.consensus.proofs.Basics.{by-bool, or-false, not-false→true}
 use Rattle.consensus.proofs.Invariant.{Stage-ok, Inv}
-use Rattle.consensus.proofs.Bounds.{Small}
+use Rattle.consensus.proofs.Ballots.{Short}
 use Rattle.consensus.proofs.Reached.{station-below}
 use Rattle.settlement.specs.declared.record.Stage.{Stage}
 use Rattle.settlement.specs.declared.record.Stage.the-variants.{Idle, Waiting, Voting, Awaiting, Seeking, FinishVoting, FinishAwaiting, Decided}
@@ -150,6 +150,6 @@ module _ (o : Opening) (a : Accepts o) (r : Settlement) (st : play.State) (l : L
       refuse-both (ltb 1 v) (ltb 1 v) 10 _ _ refl
       (λ f. refuse-both _ _ 11 _ _ (ballot-answered b) (λ g. refuse-both _ _ 12 0 0 (ap not (l .cast b (as-bit v))) (λ h. refl))))
 
-  pub number-same : Small st → (e : Event) → number r e ≡ rules.number o st e
+  pub number-same : Short o st → (e : Event) → number r e ≡ rules.number o st e
   unfolding number first-met
-  number-same small e = ap (λ (b : Bool). refuse b 42 (first-met (event-tests r e))) (faultless o a r st l inv small) ∙ event-same e
+  number-same short e = ap (λ (b : Bool). refuse b 42 (first-met (event-tests r e))) (faultless o a r st l inv short) ∙ event-same e
