@@ -2,12 +2,14 @@
 --     Record    entries read and replaced, what a record says, changed entries
 --     Fault     the record test, 42
 --     Tests     what each operation is turned away for, in order
+--     Range     what the functions of STEP rely on
 --     Step      what one STEP does
 --     Events    OPEN and the five events, whole
 --     Look      LOOK, whole
 pub mod Record
 pub mod Fault
 pub mod Tests
+pub mod Range
 pub mod Step
 pub mod Events
 pub mod Look
