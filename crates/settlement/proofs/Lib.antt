@@ -1,7 +1,9 @@
 -- Laws about the definitions of specs/ that belong to no one function.
 --     Entries   entries past an array
 --     Refusals  what the number of an outcome says of its settlement
+--     Demand1   demand 1
 --     Range     what a record that passes the record test says of its numbers
 pub mod Entries
 pub mod Refusals
 pub mod Range
+pub mod Demand1

@@ -6,6 +6,7 @@
 --     Step      what one STEP does
 --     Events    OPEN and the five events, whole
 --     Look      LOOK, whole
+--     Demand1   demand 1, as one law over every event and every record
 pub mod Record
 pub mod Fault
 pub mod Tests
@@ -13,3 +14,4 @@ pub mod Range
 pub mod Step
 pub mod Events
 pub mod Look
+pub mod Demand1

@@ -1,17 +1,17 @@
 // A settlement by value: the record, OPEN, the five events and LOOK. Every public function is total, and equals a definition of specs/.
 
 pub mod answer;
-pub mod changed;
+mod changed;
 pub mod claim;
 pub mod deliver;
 pub mod entry;
-pub mod fault;
+mod fault;
 pub mod lose;
 pub mod open;
 pub mod play;
 pub mod reading;
 pub mod record;
-pub mod refusal;
-pub mod seek;
-pub mod stage;
+mod refusal;
+mod seek;
+mod stage;
 pub mod step;
