@@ -55,9 +55,12 @@ station-fault n rule t =
     || eqb rule 1 && on-finish (t .stage)
     || eqb rule 2 && past-waiting (t .stage) && leb claimBits (t .round)
 
+abbrev pub fault-at : Settlement → ℕ → Bool
+fault-at r s = station-fault (r .count) (r .rule) (entry r s)
+
 -- "more than 32 stations; a rule other than 1 or 2;" or a fault of a station below n
 unfoldable pub fault : Settlement → Bool
 fault r =
     ltb stationEntries (r .count)
     || not (eqb (r .rule) 1 || eqb (r .rule) 2)
-    || any-below (r .count) (λ s. station-fault (r .count) (r .rule) (entry r s))
+    || any-below (r .count) (fault-at r)

@@ -72,15 +72,20 @@ takes-last-no r t FinishVoting = false
 takes-last-no r t FinishAwaiting = not (ballot r (finish-ballot (t .round)) .answer) && eqb (finish-ballot (t .round)) last-ballot
 takes-last-no r t Decided = false
 
+-- what STEP of s, whose entry is t, is refused for at each stage
+abbrev pub stage-tests : Settlement → ℕ → Station → List Test
+stage-tests r s t =
+    when (not (not-idle (t .stage))) 6
+    ∷ when (is-decided (t .stage)) 7
+    ∷ when (must-wait r s t (t .stage)) 8
+    ∷ when (takes-last-no r t (t .stage)) 42
+    ∷ []
+
 abbrev pub step-tests : Settlement → ℕ → List Test
 step-tests r s =
     when (no-station r s) 1
     ∷ when (entry r s .lost) 2
-    ∷ when (not (not-idle (entry r s .stage))) 6
-    ∷ when (is-decided (entry r s .stage)) 7
-    ∷ when (must-wait r s (entry r s) (entry r s .stage)) 8
-    ∷ when (takes-last-no r (entry r s) (entry r s .stage)) 42
-    ∷ []
+    ∷ stage-tests r s (entry r s)
 
 abbrev pub lose-tests : Settlement → ℕ → List Test
 lose-tests r s =

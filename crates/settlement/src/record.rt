@@ -1,5 +1,11 @@
 // The settlement record (document 01, "The settlement"). Nothing else is kept.
+use bits::word::WORD_BITS;
 use bits::word::Word;
+
+pub const STATION_ENTRIES: u8 = 32;
+
+// Two ballots for each bit of a claim.
+pub const BALLOT_ENTRIES: usize = 2 * WORD_BITS as usize;
 
 // Where a station stands. The two `Finish` stages are those of the finish ballot.
 pub enum Stage {
@@ -39,8 +45,8 @@ pub struct Ballot {
 pub struct Settlement {
     pub count: u8,
     pub rule: u8,
-    pub stations: [Station; 32],
-    pub ballots: [Ballot; 64],
+    pub stations: [Station; STATION_ENTRIES as usize],
+    pub ballots: [Ballot; BALLOT_ENTRIES],
 }
 
 // What OPEN and the events answer: 0 or the number of the refusal, and the settlement.

@@ -1,0 +1,113 @@
+-- What a record that passes the record test says of numbers in it, and so what a STEP that is not refused relies on. Assumes nothing.
+use Prim.Native.Nat.{ℕ, suc, _≤_, _<_}
+use native.Mathlib.Nat.{lt-of-le-of-lt, lt-of-lt-of-le}
+use native.Mathlib.Omega.{arith}
+use mathlib.Core.Path.{_≡_, refl, sym, _∙_}
+use mathlib.Core.List.{_∷_}
+use mathlib.Core.Bool.{Bool, true, false, not, _&&_, _||_}
+use lib.Dec.{eqb, ltb, leb}
+use borrow.Author.Tests.{ltb-true, ltb-false, leb-false}
+use Rattle.bits.specs.Log.{ceilLog2}
+use Rattle.bits.specs.Words.{claimBits}
+use Rattle.bits.proofs.Log.{log-le}
+use Rattle.consensus.specs.Events.{step}
+use Rattle.consensus.specs.Rules.{any-below}
+use Rattle.consensus.proofs.Basics.{by-bool, no-clash, refused-not, not-false→true, or-false, any-none}
+use Rattle.settlement.specs.declared.record.Stage.{Stage}
+use Rattle.settlement.specs.declared.record.Stage.the-variants.{Idle, Waiting, Voting, Awaiting, Seeking, FinishVoting, FinishAwaiting, Decided}
+use Rattle.settlement.specs.declared.record.Station.{Station}
+use Rattle.settlement.specs.declared.record.Settlement.{Settlement}
+use Rattle.settlement.specs.Record.{stationEntries, entry, by-station, no-station}
+use Rattle.settlement.specs.Fault.{in-round, on-finish, past-waiting, station-fault, fault-at, fault}
+use Rattle.settlement.specs.Tests.{when, first-met, stage-tests, step-tests, number}
+use Rattle.settlement.specs.Range.{Ready}
+
+unless : (a b : Bool) → (a && b) ≡ false → a ≡ true → b ≡ false
+unless true b h e = h
+unless false b h e = no-clash false e refl
+
+other : (a b : Bool) → (a || b) ≡ true → a ≡ false → b ≡ true
+other true b h e = no-clash true refl e
+other false b h e = h
+
+none-of-three : (a b c : Bool) → (a || b || c) ≡ false → (a ≡ false) × (b ≡ false) × (c ≡ false)
+none-of-three a b c h = let ab = or-false a b (or-false (a || b) c h .0) in (ab .0, ab .1, or-false (a || b) c h .1)
+
+none-of-four : (a b c d : Bool) → (a || b || c || d) ≡ false → (a ≡ false) × (b ≡ false) × (c ≡ false) × (d ≡ false)
+none-of-four a b c d h =
+    let abc = none-of-three a b c (or-false (a || b || c) d h .0) in
+    (abc .0, abc .1, abc .2, or-false (a || b || c) d h .1)
+
+acting-past : (g : Stage) → (in-round g || on-finish g) ≡ true → past-waiting g ≡ true
+acting-past Idle h = h
+acting-past Waiting h = h
+acting-past Voting h = refl
+acting-past Awaiting h = refl
+acting-past Seeking h = refl
+acting-past FinishVoting h = refl
+acting-past FinishAwaiting h = refl
+acting-past Decided h = refl
+
+-- the clauses of the record test, each unmet
+pub record Sound (r : Settlement) : Type 0 where
+  pub few : ltb stationEntries (r .count) ≡ false
+  pub rule : not (eqb (r .rule) 1 || eqb (r .rule) 2) ≡ false
+  pub stations : any-below (r .count) (fault-at r) ≡ false
+
+pub record Sound-station (n rule : ℕ) (t : Station) : Type 0 where
+  pub cursor : leb n (t .cursor) ≡ false
+  pub round : (eqb rule 1 && in-round (t .stage) && leb (ceilLog2 n) (t .round)) ≡ false
+  pub finish : (eqb rule 1 && on-finish (t .stage)) ≡ false
+  pub late : (eqb rule 2 && past-waiting (t .stage) && leb claimBits (t .round)) ≡ false
+
+pub sound : (r : Settlement) → fault r ≡ false → Sound r
+unfolding fault
+sound r h = let none = none-of-three (ltb stationEntries (r .count)) (not (eqb (r .rule) 1 || eqb (r .rule) 2)) (any-below (r .count) (fault-at r)) h in record { few = none .0; rule = none .1; stations = none .2 }
+
+pub sound-station : (n rule : ℕ) (t : Station) → station-fault n rule t ≡ false → Sound-station n rule t
+unfolding station-fault
+sound-station n rule t h =
+    let none =
+    none-of-four (leb n (t .cursor)) (eqb rule 1 && in-round (t .stage) && leb (ceilLog2 n) (t .round)) (eqb rule 1 && on-finish (t .stage))
+    (eqb rule 2 && past-waiting (t .stage) && leb claimBits (t .round)) h in
+    record { cursor = none .0; round = none .1; finish = none .2; late = none .3 }
+
+module _ (r : Settlement) (passes : fault r ≡ false) where
+  pub few-stations : r .count ≤ stationEntries
+  few-stations = ltb-false _ _ (sound r passes .few)
+
+  pub some-rule : (eqb (r .rule) 1 || eqb (r .rule) 2) ≡ true
+  some-rule = not-false→true _ (sound r passes .rule)
+
+  module _ (s : ℕ) (below : s < r .count) where
+    clauses : Sound-station (r .count) (r .rule) (entry r s)
+    clauses = sound-station (r .count) (r .rule) (entry r s) (any-none (r .count) (fault-at r) (sound r passes .stations) s below)
+
+    pub cursor-below : entry r s .cursor < r .count
+    cursor-below = leb-false _ _ (clauses .cursor)
+
+    pub round-by-station : by-station r ≡ true → in-round (entry r s .stage) ≡ true → entry r s .round < ceilLog2 (r .count)
+    round-by-station rule stage = leb-false _ _ (unless (by-station r && in-round (entry r s .stage)) _ (clauses .round) (rw (rule, stage)))
+
+    pub no-finish-by-station : by-station r ≡ true → on-finish (entry r s .stage) ≡ false
+    no-finish-by-station rule = unless _ _ (clauses .finish) rule
+
+    pub round-by-claim : by-station r ≡ false → past-waiting (entry r s .stage) ≡ true → entry r s .round < claimBits
+    round-by-claim rule stage = leb-false _ _ (unless (eqb (r .rule) 2 && past-waiting (entry r s .stage)) _ (clauses .late) (rw (other _ _ some-rule rule, stage)))
+
+    pub round-below : (in-round (entry r s .stage) || on-finish (entry r s .stage)) ≡ true → entry r s .round < claimBits
+    round-below acting =
+        by-bool (by-station r)
+        (λ rule.
+        let low : entry r s .round < ceilLog2 (r .count) =
+        round-by-station rule (by-bool (in-round (entry r s .stage)) (λ e. e) (λ e. no-clash _ (other _ _ acting e) (no-finish-by-station rule))) in
+        lt-of-lt-of-le low (omega (arith, log-le (r .count) 5 few-stations)))
+        (λ rule. round-by-claim rule (acting-past (entry r s .stage) acting))
+
+pub ready : (r : Settlement) (s : ℕ) → number r (step s) ≡ 0 → Ready r (entry r s)
+unfolding number first-met
+ready r s h =
+    let passed = refused-not (fault r) 42 (first-met (step-tests r s)) refl h in
+    let here = refused-not (no-station r s) 1 (first-met (when (entry r s .lost) 2 ∷ stage-tests r s (entry r s))) refl (passed .1) in
+    let below : s < r .count = ltb-true s (r .count) (not-false→true _ (here .0)) in
+    record { some = omega arith; round = round-below r (passed .0) s below }

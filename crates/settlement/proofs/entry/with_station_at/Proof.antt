@@ -1,0 +1,27 @@
+-- `settlement::entry::with_station_at`: past the array nothing is replaced. Assumes nothing.
+use mathlib.Core.Path.{_≡_}
+use native.Mathlib.Omega.{arith}
+use lib.ListN.{length, set}
+use borrow.Author.Needs.{needs}
+use Rattle.settlement.proofs.Entries.{unmapped-length, set-past}
+use Rattle.settlement.proofs.entry.with_station_at.Statement.{statement}
+use Rattle.settlement.proofs.entry.with_station_at.Tie as tie
+
+mul-t : tie.Need-mul-t
+mul-t c = search needs
+
+element-set-from-t : tie.Need-element-set-from-t
+element-set-from-t c = search needs
+
+returns : tie.Need-returns
+returns c = search needs
+
+returns-2 : tie.Need-returns-2
+returns-2 c =
+    let a = c .before .args in
+    let h : length (a .r .stations) ≡ 32 = search (unmapped-length, needs) in
+    let e : set (a .r .stations) (a .s) (a .t) ≡ a .r .stations = set-past (a .r .stations) (a .s) (a .t) (omega arith) in
+    rw e
+
+pub with-station-at-spec : {M : Type 1} → statement M
+with-station-at-spec = tie.close (tie.spec mul-t element-set-from-t returns returns-2)

@@ -1,0 +1,15 @@
+-- `settlement::fault::faulty`: the clauses, in the order of the definition. Assumes nothing.
+use borrow.Author.Needs.{needs}
+use Rattle.settlement.specs.Fault.{fault}
+use Rattle.settlement.proofs.fault.faulty.Statement.{statement}
+use Rattle.settlement.proofs.fault.faulty.Tie as tie
+
+some-station-faulty-requires : tie.Need-some-station-faulty-requires
+some-station-faulty-requires c κs = search needs
+
+returns : tie.Need-returns
+unfolding fault
+returns c = rw (c .some-station-faulty .ensures)
+
+pub faulty-spec : {M : Type 1} → statement M
+faulty-spec = tie.close (tie.spec some-station-faulty-requires returns)

@@ -1,0 +1,47 @@
+-- `settlement::step::stage_number`: the tests, in the order of the definition. Assumes nothing.
+use borrow.Author.Needs.{needs}
+use Rattle.settlement.specs.Tests.{first-met}
+use Rattle.settlement.proofs.step.stage_number.Statement.{statement}
+use Rattle.settlement.proofs.step.stage_number.Tie as tie
+
+must-wait-requires : tie.Need-must-wait-requires
+must-wait-requires c κs = search needs
+
+takes-last-no-requires : tie.Need-takes-last-no-requires
+takes-last-no-requires c κs = search needs
+
+refuse-requires : tie.Need-refuse-requires
+refuse-requires c κs = search needs
+
+refuse-requires-2 : tie.Need-refuse-requires-2
+refuse-requires-2 c κs = search needs
+
+not-idle-requires : tie.Need-not-idle-requires
+not-idle-requires c κs = search needs
+
+is-decided-requires : tie.Need-is-decided-requires
+is-decided-requires c κs = search needs
+
+refuse-requires-3 : tie.Need-refuse-requires-3
+refuse-requires-3 c κs = search needs
+
+refuse-requires-4 : tie.Need-refuse-requires-4
+refuse-requires-4 c κs = search needs
+
+returns : tie.Need-returns
+unfolding first-met
+returns c = rw (c .refuse4 .ensures, c .before .refuse3 .ensures, c .before .before .is-decided .ensures, c .before .before .before .not-idle .ensures, c .before .before .before .before .refuse2 .ensures, c .before .before .before .before .before .refuse .ensures, c .before .before .before .before .before .before .takes-last-no .ensures, c .before .before .before .before .before .before .before .must-wait .ensures)
+
+pub stage-number-spec : {M : Type 1} → statement M
+stage-number-spec =
+    tie.close
+    (tie.spec
+    must-wait-requires
+    takes-last-no-requires
+    refuse-requires
+    refuse-requires-2
+    not-idle-requires
+    is-decided-requires
+    refuse-requires-3
+    refuse-requires-4
+    returns)
