@@ -12,7 +12,7 @@ use borrow.Author.Tests.{eqb-true, eqb-false, eq-eqb, ne-eqb, ltb-true}
 use Rattle.consensus.specs.State.{update}
 use Rattle.consensus.specs.Rules.{refuse, any-below, is-bit}
 
-pub by-bool {ℓ} : {C : Type ℓ} (b : Bool) → (b ≡ true → C) → (b ≡ false → C) → C
+unfoldable pub by-bool {ℓ} : {C : Type ℓ} (b : Bool) → (b ≡ true → C) → (b ≡ false → C) → C
 by-bool true f g = f refl
 by-bool false f g = g refl
 

@@ -4,11 +4,15 @@ use mathlib.Core.Path.{_≡_, refl, sym, subst, _∙_, ap}
 use mathlib.Core.Logic.{_⊎_, inl, inr}
 use mathlib.Core.Bool.{Bool, true, false, not, _&&_}
 use mathlib.Core.Option.{Option, none, some, Option·none-ne-some, Option·some-injective}
-use Rattle.consensus.specs.Events.{Event, History, start, _▷_, Opening}
-use Rattle.consensus.specs.State.{State, held, answered}
-use Rattle.consensus.specs.Rules.{any-below, after}
+use Rattle.bits.specs.Digits.{bit, binaryDigits, digitsIn}
+use Rattle.bits.specs.Words.{withBit, lowAgree}
+use Rattle.bits.specs.Log.{ceilLog2, leastFrom}
+use Rattle.consensus.specs.Events.{Event, History, start, _▷_, byStation, byClaim, Opening}
+use Rattle.consensus.specs.State.{State, held, answered, update}
+use Rattle.consensus.specs.Rules.{any-below, stage-number, number, step-from, effect, next, after}
 use Rattle.consensus.specs.Words.{Claims-fit, takes, waits-on, Supplied, Takes-supplied, Supplied-steps}
 use Rattle.consensus.specs.Demand3.{Demand3, Demand3-of, No-42}
+use Rattle.consensus.specs.Examples.{opening, lone-by-station, lone-by-claim, Bounds-met}
 use Rattle.consensus.proofs.Basics.{by-bool, no-clash, any-found, any-none, and-true, not-false→true}
 use Rattle.consensus.proofs.Reached.{reached}
 use Rattle.consensus.proofs.Accepted.{holds-shown, answered-shown}
@@ -108,3 +112,19 @@ demand3 = record {
 
 pub no-event-42 : No-42
 no-event-42 = record { holds = λ o h f e. no-42 o h f e }
+
+-- ---- the bounds are met: the supplied steps of a lone claimant, counted
+
+count-5 : counted (opening 2 byStation) lone-by-station 0 .0 ≡ 5
+unfolding counted one-more takes-told supplied-told own-told all-told answers-told lacks by-bool waits-on bit binaryDigits digitsIn withBit lowAgree ceilLog2 leastFrom update any-below stage-number number step-from effect next after
+count-5 = refl
+
+count-6 : counted (opening 1 byClaim) lone-by-claim 0 .0 ≡ 6
+unfolding counted one-more takes-told supplied-told own-told all-told answers-told lacks by-bool waits-on bit binaryDigits digitsIn withBit lowAgree ceilLog2 leastFrom update any-below stage-number number step-from effect next after
+count-6 = refl
+
+pub bounds-met : Bounds-met
+bounds-met = record {
+  by-station = subst (λ (m : ℕ). Supplied-steps (opening 2 byStation) 0 m lone-by-station) count-5 (counted (opening 2 byStation) lone-by-station 0 .1);
+  by-claim = subst (λ (m : ℕ). Supplied-steps (opening 1 byClaim) 0 m lone-by-claim) count-6 (counted (opening 1 byClaim) lone-by-claim 0 .1);
+}

@@ -1,4 +1,6 @@
--- Proofs about the play.
+-- Proofs about the play. First, computed: the lists that tell the four false readings apart.
+pub mod Examples
+-- What holds of every state reached:
 --     Basics       cases on Bools, updates, refusals
 --     Invariant    what holds of every state reached from an opening
 --     Grows        what all can see only grows, and the invariant's parts grow with it
@@ -18,7 +20,7 @@ pub mod Station
 -- Demand 3:
 --     Accepted     an accepted event is what the state shows
 --     Told         what the list tells of a station is what its stage says
---     Longest      rounds stay below K and below a claim's width
+--     Longest      rounds stay below K
 --     Agree        agreement, validity, the cost in ballots
 --     Bound        what each step spends
 --     Supplied     the bound on supplied steps
@@ -36,7 +38,7 @@ pub mod Demand3
 --     Alike        what a STEP does, in the figures' terms
 --     Alike1       a STEP by station does what an event of figure 1 does
 --     Alike2       a STEP by claim does what an event of figure 2 does
---     Ballots      nothing is cast past the last ballot, and 42 is never met
+--     Bounds       nothing is cast past the last ballot, and 42 is never met
 --     Shown        each event has the same verdict in the play and in the figure
 --     Figures      demand 2 about the play
 --     Lawful       what both figures' lines have in common
@@ -46,7 +48,7 @@ pub mod Demand3
 pub mod Alike
 pub mod Alike1
 pub mod Alike2
-pub mod Ballots
+pub mod Bounds
 pub mod Shown
 pub mod Figures
 pub mod Lawful

@@ -11,6 +11,7 @@
 --     Runs        what may happen in the system, and the runs of a figure
 --     Demand2     demand 2 about the play
 --     Lines       runs of single printed lines end where the play ends
+--     Examples    lists that tell the four false readings apart
 pub mod Events
 pub mod State
 pub mod Rules
@@ -23,3 +24,4 @@ pub mod System
 pub mod Runs
 pub mod Demand2
 pub mod Lines
+pub mod Examples

@@ -1,0 +1,13 @@
+-- What the crate `settlement` is about, as a reader must believe it. Every definition speaks of any record, made-up ones included.
+--     Record    entries read and replaced, what a record says, changed entries
+--     Fault     the record test, 42
+--     Tests     what each operation is turned away for, in order
+--     Step      what one STEP does
+--     Events    OPEN and the five events, whole
+--     Look      LOOK, whole
+pub mod Record
+pub mod Fault
+pub mod Tests
+pub mod Step
+pub mod Events
+pub mod Look

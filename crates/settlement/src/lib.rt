@@ -1,0 +1,4 @@
+// A settlement by value: the record, OPEN, the five events and LOOK. Every public function is total, and equals a definition of specs/.
+
+pub mod entry;
+pub mod record;
