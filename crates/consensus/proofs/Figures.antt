@@ -16,7 +16,7 @@ use Rattle.consensus.specs.Demand2.{figure-by, figure-of, place-by, Figu
 use Rattle.consensus.proofs.Reached.{reached}
 use Rattle.consensus.proofs.Station.{next-accepted}
 use Rattle.consensus.proofs.Alike.{Verdict, both, neither}
-use Rattle.consensus.proofs.Bounds.{reached-small}
+use Rattle.consensus.proofs.Ballots.{in-bounds}
 use Rattle.consensus.proofs.Shown.{Judged, verdict}
 
 first-shown : (r : Rule) → place-by r idle ≡ some (figure-by r .first)
@@ -63,10 +63,10 @@ module _ (o : Opening) (ok : Accepts o) where
   }
   shown (h ▷ e) fit =
       next-shown o (after o h) (figure-after o h) e (shown h (fit .0))
-      (verdict o (after o h) (figure-after o h) (shown h (fit .0)) (reached o h) (reached-small o h (fit .0)) ok e)
+      (verdict o (after o h) (figure-after o h) (shown h (fit .0)) (reached o h) (in-bounds o h (fit .0)) ok e)
 
   pub same-verdict : (h : History) → Claims-fit h → (e : Event) → Judged o (after o h) (figure-after o h) e
-  same-verdict h fit e = verdict o (after o h) (figure-after o h) (shown h fit) (reached o h) (reached-small o h fit) ok e
+  same-verdict h fit e = verdict o (after o h) (figure-after o h) (shown h fit) (reached o h) (in-bounds o h fit) ok e
 
   demand2-of : (h : History) → Claims-fit h → Demand2-of o h
   unfolding after

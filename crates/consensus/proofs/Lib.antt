@@ -38,7 +38,7 @@ pub mod Demand3
 --     Alike        what a STEP does, in the figures' terms
 --     Alike1       a STEP by station does what an event of figure 1 does
 --     Alike2       a STEP by claim does what an event of figure 2 does
---     Bounds       nothing is cast past the last ballot, and 42 is never met
+--     Ballots      nothing is cast past the last ballot, and 42 is never met
 --     Shown        each event has the same verdict in the play and in the figure
 --     Figures      demand 2 about the play
 --     Lawful       what both figures' lines have in common
@@ -48,7 +48,7 @@ pub mod Demand3
 pub mod Alike
 pub mod Alike1
 pub mod Alike2
-pub mod Bounds
+pub mod Ballots
 pub mod Shown
 pub mod Figures
 pub mod Lawful

@@ -18,7 +18,7 @@ use Rattle.consensus.proofs.Invariant.{Part-ok, Inv}
 use Rattle.consensus.proofs.Reached.{reached}
 use Rattle.consensus.proofs.Accepted.{holds-shown, lost-shown, put-in-shown, answered-shown}
 use Rattle.consensus.proofs.Told.{stage-after, waiting-ballot, waits-shown, shown-decided}
-use Rattle.consensus.proofs.Bounds.{reached-small, finish-below}
+use Rattle.consensus.proofs.Ballots.{finish-below}
 
 -- a test that is not met refuses nothing
 passes : (t : Bool) (m rest : ℕ) → t ≡ false → refuse t m rest ≡ rest
@@ -31,7 +31,7 @@ module _ (o : Opening) (h : History) (fit : Claims-fit h) where
   -- the finish answer 0 does not come from the last ballot
   not-last : o .rule ≡ byClaim → (k : ℕ) → after o h .answer-of (finish-ballot k) ≡ some false → eqb (suc (finish-ballot k)) (ballots o) ≡ false
   not-last r k e =
-      let l = finish-below o (after o h) (reached o h) (reached-small o h fit) r k e in
+      let l = finish-below o h fit r k e in
       let count : ballots o ≡ 2 * claimBits = ap (λ (q : Rule). ballotsOf q (rounds o)) r in
       ne-eqb (suc (finish-ballot k)) (ballots o) (λ q. let f : suc (finish-ballot k) ≡ 2 * claimBits = q ∙ count in omega arith)
 

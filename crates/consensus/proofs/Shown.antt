@@ -22,7 +22,7 @@ use Rattle.consensus.proofs.Accepted.{step-active}
 use Rattle.consensus.proofs.Alike.{Alike, both-blocked, both-go, both-broadcast, both-propose, Verdict, both, neither, play-view, does-at, Side, side, Quiet, claim-side}
 use Rattle.consensus.proofs.Alike1.{alike-1}
 use Rattle.consensus.proofs.Alike2.{alike-2}
-use Rattle.consensus.proofs.Bounds.{Small, ballot-below, not-last}
+use Rattle.consensus.proofs.Ballots.{In-bounds}
 
 same-update : {A : Type 0} (f g : ℕ → A) (j : ℕ) (a : A) → ((i : ℕ) → f i ≡ g i) → (i : ℕ) → update f j a i ≡ update g j a i
 same-update {A} f g j a e i = pair-ind (λ (y z : A). y ≡ z) f g j a a i (λ q. refl) (e i)
@@ -229,15 +229,15 @@ module _ (o : Opening) where
           holdings = refl;
         }) a)
 
-    step-verdict : Inv o st → Small st → Accepts o → (s : ℕ) → Judged st x (step s)
+    step-verdict : Inv o st → In-bounds o st → Accepts o → (s : ℕ) → Judged st x (step s)
     unfolding number effect happens
-    step-verdict inv small ok s =
+    step-verdict inv within ok s =
         owned (ltb s (o .count)) (st .station s .lost) (x .process s .crashed) (stage-number o st s (st .station s .stage)) s (advance-by (x .process s) (does s))
         (Stepped s p) (λ y. Shows o (set-station st s p) y) (shows .crashed s)
         (λ q t.
         own-shows inv s p q (t .part) (λ c. t .own) (λ i h. inv .parts s .holdings i (subst (λ (f : ℕ → Bool). f i ≡ true) (t .holdings) h) .2))
         (step-inner s _ p _ (does s) (step-active o st s (st .station s .stage) (st .station s) refl) (alike inv ok s)
-        (side o st s (st .station s .stage) (not-last o st inv small s)))
+        (side o st s (st .station s .stage) (within .not-last s)))
       where
         p : Station
         p = step-from o st s (st .station s .stage) (st .station s)
@@ -352,9 +352,9 @@ module _ (o : Opening) where
     then-provided true l f = refl
     then-provided false l f = refl
 
-    answer-verdict : Inv o st → Small st → (b a : ℕ) → Judged st x (answer b a)
+    answer-verdict : Inv o st → In-bounds o st → (b a : ℕ) → Judged st x (answer b a)
     unfolding number effect happens
-    answer-verdict inv small b a =
+    answer-verdict inv within b a =
         subst (λ (y : Option (Figure-state o)). Verdict (number o st (answer b a)) y (λ z. Shows o (effect o st (answer b a)) z))
         (sym (then-provided (not (ltb 1 a)) (decide b (eqb a 1)) (happens (o .count) (event (figure-of o)) x)))
         (subst (λ (k : Bool). Told k (λ i. is-bit (as-bit a) (x .process i .proposed b))) (sym (ap known (shows .decision b) ∙ same-known (st .answer-of b)))
@@ -372,11 +372,11 @@ module _ (o : Opening) where
         there : was-cast o st b (as-bit a) ≡ true → ltb b (ballots o) ≡ true
         there c =
             let f = any-found (o .count) _ c in
-            lt-ltb b (ballots o) (ballot-below o st inv small (f .0) b (as-bit a) (is-bit-some (as-bit a) _ (f .2)))
+            lt-ltb b (ballots o) (within .ballot (f .0) b (as-bit a) (is-bit-some (as-bit a) _ (f .2)))
 
-    pub verdict : Inv o st → Small st → Accepts o → (e : Event) → Judged st x e
-    verdict inv small ok (claim s v) = claim-verdict inv ok s v
-    verdict inv small ok (deliver t s) = deliver-verdict inv t s
-    verdict inv small ok (step s) = step-verdict inv small ok s
-    verdict inv small ok (lose s) = lose-verdict inv s
-    verdict inv small ok (answer b a) = answer-verdict inv small b a
+    pub verdict : Inv o st → In-bounds o st → Accepts o → (e : Event) → Judged st x e
+    verdict inv within ok (claim s v) = claim-verdict inv ok s v
+    verdict inv within ok (deliver t s) = deliver-verdict inv t s
+    verdict inv within ok (step s) = step-verdict inv within ok s
+    verdict inv within ok (lose s) = lose-verdict inv s
+    verdict inv within ok (answer b a) = answer-verdict inv within b a

@@ -103,7 +103,7 @@ module _ (o : Opening) (p : ℕ) where
 
 -- ---- the bound itself
 
-no-such-rule : byStation ≡ byClaim → ⊥
+pub no-such-rule : byStation ≡ byClaim → ⊥
 no-such-rule e = subst kind e tt
   where
     kind : Rule → Type 0

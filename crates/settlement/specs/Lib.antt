@@ -5,9 +5,13 @@
 --     Step      what one STEP does
 --     Events    OPEN and the five events, whole
 --     Look      LOOK, whole
+--     Link      the records that a list of events leads to, beside the play
+--     Demands   demands 2 and 3 about the operations, over whole lists
 pub mod Record
 pub mod Fault
 pub mod Tests
 pub mod Step
 pub mod Events
 pub mod Look
+pub mod Link
+pub mod Demands
