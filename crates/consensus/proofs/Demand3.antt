@@ -75,7 +75,8 @@ module _ (o : Opening) (p : ℕ) (h : History) where
   supplied-told : Dec (Supplied o p h)
   supplied-told = go own-told all-told (answers-told (waits-on o p h))
     where
-      go : Dec (held st p p ≡ true) → Dec ((s t : ℕ) → held st s t ≡ true → held st p t ≡ true) → Dec (Answered-if (waits-on o p h)) → Dec (Supplied o p h)
+      go : Dec (held st p p ≡ true) → Dec ((s t : ℕ) → held st s t ≡ true → held st p t ≡ true) → Dec (Answered-if (waits-on o p h))
+          → Dec (Supplied o p h)
       go (yes a) (yes b) (yes c) = yes (supplied-of a b c)
       go (no f) b c = no (λ s. f (holds-shown o p p h .0 (s .own)))
       go (yes a) (no f) c = no (λ s. f (λ i t x. holds-shown o p t h .0 (s .all i t (holds-shown o i t h .1 x))))

@@ -36,7 +36,8 @@ given-refused b (step s) = refl
 given-refused b (lose s) = refl
 given-refused b (answer c a) = refl
 
-given-accepted : (o : Opening) (st : State) (e : Event) (b : ℕ) → number o st e ≡ 0 → or-else (st .answer-of b) (given b true e) ≡ effect o st e .answer-of b
+given-accepted : (o : Opening) (st : State) (e : Event) (b : ℕ) → number o st e ≡ 0
+    → or-else (st .answer-of b) (given b true e) ≡ effect o st e .answer-of b
 unfolding effect
 given-accepted o st (claim s v) b n = or-else-none (st .answer-of b)
 given-accepted o st (deliver t s) b n = or-else-none (st .answer-of b)
@@ -150,7 +151,8 @@ step-moves o st s (finish-awaiting j k d) p holds cast x n =
 step-moves o st s (decided v k) p holds cast x n = absurd (decided-refused o st s v k n)
 
 -- the ballot that an accepted STEP had waited on is answered
-waited-answered : (o : Opening) (st : State) (s : ℕ) (g : Stage) (b : ℕ) → waiting-ballot o g ≡ some b → stage-number o st s g ≡ 0 → answered (st .answer-of b) ≡ true
+waited-answered : (o : Opening) (st : State) (s : ℕ) (g : Stage) (b : ℕ) → waiting-ballot o g ≡ some b → stage-number o st s g ≡ 0
+    → answered (st .answer-of b) ≡ true
 unfolding stage-number
 waited-answered o st s idle b w n = absurd (Option·none-ne-some b w)
 waited-answered o st s waiting b w n = absurd (Option·none-ne-some b w)
@@ -216,7 +218,8 @@ module _ (o : Opening) (p : ℕ) where
       (step-moves o (after o h) p (stage-after h) (after o h .station p) _ _ (reached o h .parts p) (step-accepted o (after o h) p (k .accepted) .stage))
 
   -- where the STEP is not p's, or is refused: what a function of the stage says of idle and of waiting is the same, so it stays
-  stays : {A : Type 0} (f : Stage → A) → f idle ≡ f waiting → (h : History) (e : Event) → takes o p h e ≡ false → f (stage-after h) ≡ f (stage-after (h ▷ e))
+  stays : {A : Type 0} (f : Stage → A) → f idle ≡ f waiting → (h : History) (e : Event) → takes o p h e ≡ false
+      → f (stage-after h) ≡ f (stage-after (h ▷ e))
   unfolding after
   stays f i h e t = ⊎-elim (λ s. ap f (sym s)) (λ s. ap f (s .0) ∙ i ∙ ap f (sym (s .1))) (untaken o (after o h) p e t)
 
@@ -246,11 +249,13 @@ module _ (o : Opening) (p : ℕ) where
       ∙ ap up-to (stays (votes o) refl h e t))
 
   -- the ballot that an accepted STEP of p had waited on is answered
-  waited-after : (h : History) (e : Event) → takes o p h e ≡ true → (b : ℕ) → waiting-ballot o (stage-after h) ≡ some b → answered (after o h .answer-of b) ≡ true
+  waited-after : (h : History) (e : Event) → takes o p h e ≡ true → (b : ℕ) → waiting-ballot o (stage-after h) ≡ some b
+      → answered (after o h .answer-of b) ≡ true
   waited-after h e t b w =
       waited-answered o (after o h) p (stage-after h) b w (step-accepted o (after o h) p (taken-after h e t .accepted) .stage)
 
-  adds-below : (x : Option ℕ) (f : ℕ → Option Bool) (m m' : ℕ) → Adds x m m' → ((b : ℕ) → x ≡ some b → answered (f b) ≡ true) → ((i : ℕ) → i < m → answered (f i) ≡ true) → (i : ℕ) → i < m' → answered (f i) ≡ true
+  adds-below : (x : Option ℕ) (f : ℕ → Option Bool) (m m' : ℕ) → Adds x m m' → ((b : ℕ) → x ≡ some b → answered (f b) ≡ true)
+      → ((i : ℕ) → i < m → answered (f i) ≡ true) → (i : ℕ) → i < m' → answered (f i) ≡ true
   adds-below none f m m' e a old i l = old i (subst (λ (y : ℕ). i < y) e l)
   adds-below (some b) f m m' e a old i l =
       below-suc i m (subst (λ (y : ℕ). i < y) (e .1) l) (old i) (λ q. subst (λ (y : ℕ). answered (f y) ≡ true) (e .0 ∙ sym q) (a b refl))

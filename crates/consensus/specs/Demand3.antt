@@ -33,7 +33,8 @@ module _ (o : Opening) (h : History) where
     pub counted : (p : ℕ) → (m : ℕ) × Supplied-steps o p m h
     pub bound : (p m : ℕ) → Supplied-steps o p m h → m ≤ most-steps (o .rule) (o .count) (rounds o) (longest o h)
     -- "a P that has claimed, is not lost and is undecided is never refused one", wherever in the list it is tried
-    pub never-refused : (g : History) → Beginning g h → (p v : ℕ) → Put-in o p v g → (Lost o p g → ⊥) → ((w : ℕ) → Decided o p w g → ⊥) → Supplied o p g → number o (after o g) (step p) ≡ 0
+    pub never-refused : (g : History) → Beginning g h → (p v : ℕ) → Put-in o p v g → (Lost o p g → ⊥) → ((w : ℕ) → Decided o p w g → ⊥)
+        → Supplied o p g → number o (after o g) (step p) ≡ 0
 
 -- Demand 3 about the play: every accepted opening, both rules, every list of events whose claims are claims.
 pub record Demand3 : Type 0 where

@@ -53,7 +53,8 @@ open-accepted o a =
     ap₂ (λ (x y : Bool). refuse (x || y) 40 (refuse (not (eqb (rule-number (o .rule)) 1 || eqb (rule-number (o .rule)) 2)) 41 0)) low (le-ltb stationEntries (o .count) (a .not-too-many))
     ∙ ap (λ (x : Bool). refuse x 41 0) (rule-known (o .rule))
 
-opened-fresh : (o : Opening) → Accepts o → opened (o .count) (rule-number (o .rule)) ≡ record { number = 0; settlement = fresh (o .count) (rule-number (o .rule)) }
+opened-fresh : (o : Opening) → Accepts o
+    → opened (o .count) (rule-number (o .rule)) ≡ record { number = 0; settlement = fresh (o .count) (rule-number (o .rule)) }
 unfolding opened outcome
 opened-fresh o a = ap (λ (k : ℕ). outcome k (fresh (o .count) (rule-number (o .rule))) blank) (open-accepted o a)
 
@@ -130,7 +131,8 @@ votes-same-by n q r c e t FinishAwaiting = omega arith
 votes-same-by n q r c e t Has-decided =
     ap₂ (λ (x m : ℕ). cond (eqb x 1) (ceilLog2 m) (2 * t .round + 2)) e c ∙ all-votes q
   where
-    all-votes : (q : Rule) → cond (eqb (rule-number q) 1) (ceilLog2 n) (2 * t .round + 2) ≡ invariant.votes-by q (record { count = n; rule = q }) (play.decided (t .decision) (t .round))
+    all-votes : (q : Rule)
+        → cond (eqb (rule-number q) 1) (ceilLog2 n) (2 * t .round + 2) ≡ invariant.votes-by q (record { count = n; rule = q }) (play.decided (t .decision) (t .round))
     all-votes byStation = refl
     all-votes byClaim = omega arith
 
