@@ -1,8 +1,8 @@
--- Laws about the definitions of specs/ that belong to no one function.
+-- Laws that belong to no one function.
 --     Entries   entries past an array
 --     Refusals  what the number of an outcome says of its settlement
---     Demand1   demand 1
 --     Range     what a record that passes the record test says of its numbers
+--     Demand1   demand 1
 --     Link      the record and the play go side by side, so demands 2 and 3 hold of the operations
 pub mod Entries
 pub mod Refusals

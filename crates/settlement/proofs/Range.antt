@@ -14,7 +14,6 @@ use Rattle.consensus.specs.Events.{step}
 use Rattle.consensus.specs.Rules.{any-below}
 use Rattle.consensus.proofs.Basics.{by-bool, no-clash, refused-not, not-false→true, or-false, any-none}
 use Rattle.settlement.specs.declared.record.Stage.{Stage}
-use Rattle.settlement.specs.declared.record.Stage.the-variants.{Idle, Waiting, Voting, Awaiting, Seeking, FinishVoting, FinishAwaiting, Decided}
 use Rattle.settlement.specs.declared.record.Station.{Station}
 use Rattle.settlement.specs.declared.record.Settlement.{Settlement}
 use Rattle.settlement.specs.Record.{stationEntries, entry, by-station, no-station}
@@ -39,14 +38,7 @@ none-of-four a b c d h =
     (abc .0, abc .1, abc .2, or-false (a || b || c) d h .1)
 
 acting-past : (g : Stage) → (in-round g || on-finish g) ≡ true → past-waiting g ≡ true
-acting-past Idle h = h
-acting-past Waiting h = h
-acting-past Voting h = refl
-acting-past Awaiting h = refl
-acting-past Seeking h = refl
-acting-past FinishVoting h = refl
-acting-past FinishAwaiting h = refl
-acting-past Decided h = refl
+acting-past g h = rw h
 
 -- the clauses of the record test, each unmet
 pub record Sound (r : Settlement) : Type 0 where

@@ -3,6 +3,7 @@ ghost use mathlib.Core.Path.{_≡_};
 ghost use Rattle.consensus.specs.Rules.{any-below};
 ghost use Rattle.settlement.specs.Fault.{in-round, on-finish, past-waiting, station-fault, fault-at, fault};
 use crate::entry::station_at;
+use crate::reading::is_decided;
 use crate::record::STATION_ENTRIES;
 use crate::record::Settlement;
 use crate::record::Stage;
@@ -42,19 +43,11 @@ pub fn on_finish(stage: Stage) -> bool
     }
 }
 
+// In a round, on a finish ballot or decided.
 pub fn past_waiting(stage: Stage) -> bool
     ensures { λ x. ⌜ x ≡ past-waiting stage ⌝ }
 {
-    match stage {
-        Stage::Idle => false,
-        Stage::Waiting => false,
-        Stage::Voting => true,
-        Stage::Awaiting => true,
-        Stage::Seeking => true,
-        Stage::FinishVoting => true,
-        Stage::FinishAwaiting => true,
-        Stage::Decided => true,
-    }
+    in_round(stage) | on_finish(stage) | is_decided(stage)
 }
 
 // One station's test, in a record of n stations.
