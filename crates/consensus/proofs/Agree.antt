@@ -56,7 +56,7 @@ a-claimer : (o : Opening) (r : Rule) (st : State) (v k : ℕ) → Decided-by o r
 a-claimer o byStation st v k x = (x .0, x .2, x .3)
 a-claimer o byClaim st v k x = (x .0, x .2, x .3)
 
-length-up-to : (m : ℕ) → length (up-to m) ≡ m
+pub length-up-to : (m : ℕ) → length (up-to m) ≡ m
 unfolding up-to
 length-up-to zero = refl
 length-up-to (suc m) = length-append (up-to m) (m ∷ []) ∙ add-one (length (up-to m)) ∙ ap suc (length-up-to m)

@@ -12,7 +12,7 @@ use borrow.Author.Tests.{eqb-true, eqb-false, eq-eqb, ne-eqb, ltb-true}
 use Rattle.consensus.specs.State.{update}
 use Rattle.consensus.specs.Rules.{refuse, any-below, is-bit}
 
-pub by-bool {ℓ} : {C : Type ℓ} (b : Bool) → (b ≡ true → C) → (b ≡ false → C) → C
+unfoldable pub by-bool {ℓ} : {C : Type ℓ} (b : Bool) → (b ≡ true → C) → (b ≡ false → C) → C
 by-bool true f g = f refl
 by-bool false f g = g refl
 
@@ -27,6 +27,16 @@ no-clash b p q = absurd (true≢false (sym p ∙ q))
 pub update-ind : {A : Type 0} (C : A → Type 0) (f : ℕ → A) (i : ℕ) (x : A) (j : ℕ) → (j ≡ i → C x) → ((j ≡ i → ⊥) → C (f j)) → C (update f i x j)
 unfolding update
 update-ind C f i x j new old = cond-ind C (eqb j i) x (f j) (λ e. new (eqb-true j i e)) (λ e. old (eqb-false j i e))
+
+-- two functions updated at the same place are related at each place if they were, and the new values are
+pub pair-ind : {A B : Type 0} (R : A → B → Type 0) (f : ℕ → A) (g : ℕ → B) (s : ℕ) (a : A) (b : B) (i : ℕ)
+    → (i ≡ s → R a b) → R (f i) (g i) → R (update f s a i) (update g s b i)
+unfolding update
+pair-ind R f g s a b i new old = go (eqb i s) (eqb-true i s)
+  where
+    go : (t : Bool) → (t ≡ true → i ≡ s) → R (cond t a (f i)) (cond t b (g i))
+    go true e = new (e refl)
+    go false e = old
 
 pub update-same : {A : Type 0} (f : ℕ → A) (i : ℕ) (x : A) → update f i x i ≡ x
 update-same f i x = update-ind (λ y. y ≡ x) f i x i (λ e. refl) (λ ne. absurd (ne refl))

@@ -1,5 +1,5 @@
--- Claims put in are no longer than K and fit their width; a finish answer 0 tells of a claim with a higher bit. So by claim a round that
--- a station may be in is below K, and none goes past the last ballot. Assumes nothing.
+-- Claims put in are no longer than K and fit their width, and a finish answer 0 tells of a claim with a higher bit. So by claim a round that
+-- a station may be in is below K. Assumes nothing.
 use Prim.Native.Nat.{ℕ, zero, suc, _+_, _*_, _^_, _<_, _≤_, max}
 use mathlib.Core.Path.{_≡_, refl, sym, subst, _∙_, ap}
 use mathlib.Core.Logic.{_⊎_, inl, inr}

@@ -11,6 +11,11 @@ use Rattle.consensus.proofs.Basics.{update-ind}
 use Rattle.consensus.proofs.Invariant.{Cast-ok, Stage-ok, Part-ok, Inv, votes}
 use Rattle.consensus.proofs.Grows.{Grows, part-grows, cast-grows}
 
+-- the state st' that an event leaves of st: the invariant holds on, and what all can see has grown
+pub record Kept (o : Opening) (st st' : State) : Type 0 where
+  pub inv : Inv o st'
+  pub grows : Grows st st'
+
 module _ (st : State) (s : ℕ) (p : Station) where
   -- the new part has all that the old one showed
   pub record Own-grows : Type 0 where
@@ -35,13 +40,20 @@ module _ (st : State) (s : ℕ) (p : Station) where
         (λ ne. e);
   }
 
-  pub own-inv : (o : Opening) → Inv o st → Own-grows → Part-ok o (set-station st s p) s (p .stage) (p .holds) (p .cast) → Inv o (set-station st s p)
+  own-inv : (o : Opening) → Inv o st → Own-grows → Part-ok o (set-station st s p) s (p .stage) (p .holds) (p .cast) → Inv o (set-station st s p)
   own-inv o inv g new = record {
     parts = λ q.
         update-ind (λ (x : Station). Part-ok o (set-station st s p) q (x .stage) (x .holds) (x .cast)) (st .station) s p q
         (λ i. subst (λ (y : ℕ). Part-ok o (set-station st s p) y (p .stage) (p .holds) (p .cast)) (sym i) new)
         (λ ne. part-grows o st (set-station st s p) (own-grows g) q _ _ _ (inv .parts q));
     answers = λ b a e. let t = inv .answers b a e in (t .0, t .1, own-grows g .casts _ _ _ (t .2));
+  }
+
+  -- it is enough that the new part is right in the state as it was
+  pub own-kept : (o : Opening) → Inv o st → Own-grows → Part-ok o st s (p .stage) (p .holds) (p .cast) → Kept o st (set-station st s p)
+  own-kept o inv g part = record {
+    inv = own-inv o inv g (part-grows o st (set-station st s p) (own-grows g) s (p .stage) (p .holds) (p .cast) part);
+    grows = own-grows g;
   }
 
 -- a STEP: another stage g and other casts c for the station s, the rest as it was
@@ -66,8 +78,8 @@ module _ (o : Opening) (st : State) (s : ℕ) (g : Stage) (c : ℕ → Option Bo
   move-grows : Move → Own-grows st s (moved st s g c)
   move-grows m = record { claims = λ e. (m .active, refl); helds = λ t e. e; casts = m .kept }
 
-  pub move-inv : Inv o st → Move → Inv o (set-station st s (moved st s g c))
-  move-inv inv m = own-inv st s (moved st s g c) o inv (move-grows m) (part-grows o st _ (own-grows st s _ (move-grows m)) s g _ c here)
+  pub move-kept : Inv o st → Move → Kept o st (set-station st s (moved st s g c))
+  move-kept inv m = own-kept st s (moved st s g c) o inv (move-grows m) here
     where
       casts : (b : ℕ) (a : Bool) → (st .station s .cast b ≡ some a) ⊎ Cast-ok o st b a → (s < o .count) × Cast-ok o st b a
       casts b a (inl e) = inv .parts s .casts b a e

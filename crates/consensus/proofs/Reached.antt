@@ -13,8 +13,8 @@ use Rattle.consensus.specs.State.{Stage, idle, waiting, voting, awaiting
 use Rattle.consensus.specs.Rules.{no-station, was-cast, is-bit, as-bit, refuse, stage-number, number, claiming, holding, losing, step-from, effect, next, after}
 use Rattle.consensus.proofs.Basics.{by-bool, cond-ind, no-clash, update-ind, update-same, refused-not, not-false→true, or-false, any-found, is-bit-some}
 use Rattle.consensus.proofs.Invariant.{Part-ok, Inv, Stage-ok, Spelling}
-use Rattle.consensus.proofs.Grows.{Grows, part-grows}
-use Rattle.consensus.proofs.Own.{Own-grows, own-grows, own-inv}
+use Rattle.consensus.proofs.Grows.{Grows, grows-refl, part-grows}
+use Rattle.consensus.proofs.Own.{Kept, Own-grows, own-kept}
 use Rattle.consensus.proofs.Steps.{step-keeps}
 
 -- what an event leaves: the state as it was, or its effect where it is accepted
@@ -145,8 +145,8 @@ hold-more o st (finish-awaiting j k d) holds more cast f x = (x .0, spelling-mor
 hold-more o st (decided v k) holds more cast f x = x
 
 module _ (o : Opening) (st : State) (inv : Inv o st) where
-  claim-keeps : (s v : ℕ) → Claim-accepted o st s v → Inv o (set-station st s (claiming v (st .station s)))
-  claim-keeps s v a = own-inv st s _ o inv grows (part-grows o st _ (own-grows st s _ grows) s waiting _ _ part)
+  claim-keeps : (s v : ℕ) → Claim-accepted o st s v → Kept o st (set-station st s (claiming v (st .station s)))
+  claim-keeps s v a = own-kept st s (claiming v (st .station s)) o inv grows part
     where
       grows : Own-grows st s (claiming v (st .station s))
       grows = record { claims = λ c. no-clash _ c (a .unclaimed); helds = λ t e. e; casts = λ b x e. e }
@@ -157,8 +157,8 @@ module _ (o : Opening) (st : State) (inv : Inv o st) where
           record { holdings = x .holdings; casts = x .casts; uncast = x .uncast; stage = tt }
 
   -- the part of a station that now holds the claim of t
-  deliver-keeps : (t s : ℕ) → Deliver-accepted o st t s → Inv o (set-station st s (holding t (st .station s)))
-  deliver-keeps t s a = own-inv st s _ o inv grows (part-grows o st _ (own-grows st s _ grows) s _ _ _ part)
+  deliver-keeps : (t s : ℕ) → Deliver-accepted o st t s → Kept o st (set-station st s (holding t (st .station s)))
+  deliver-keeps t s a = own-kept st s (holding t (st .station s)) o inv grows part
     where
       more : (i : ℕ) → st .station s .holds i ≡ true → update (st .station s .holds) t true i ≡ true
       more i e = update-ind (λ (x : Bool). x ≡ true) (st .station s .holds) t true i (λ q. refl) (λ ne. e)
@@ -179,16 +179,16 @@ module _ (o : Opening) (st : State) (inv : Inv o st) where
             stage = hold-more o st (st .station s .stage) (st .station s .holds) _ (st .station s .cast) more (x .stage);
           }
 
-  step-event-keeps : (s : ℕ) → Step-accepted o st s → Inv o (set-station st s (step-from o st s (st .station s .stage) (st .station s)))
+  step-event-keeps : (s : ℕ) → Step-accepted o st s → Kept o st (set-station st s (step-from o st s (st .station s .stage) (st .station s)))
   step-event-keeps s a = step-keeps o st s inv (a .station) (st .station s .stage) refl (a .stage)
 
-  lose-keeps : (s : ℕ) → Inv o (set-station st s (losing (st .station s)))
-  lose-keeps s = own-inv st s _ o inv grows (part-grows o st _ (own-grows st s _ grows) s _ _ _ (inv .parts s))
+  lose-keeps : (s : ℕ) → Kept o st (set-station st s (losing (st .station s)))
+  lose-keeps s = own-kept st s (losing (st .station s)) o inv grows (inv .parts s)
     where
       grows : Own-grows st s (losing (st .station s))
       grows = record { claims = λ c. (c, refl); helds = λ t e. e; casts = λ b x e. e }
 
-  pub answer-grows : (b a : ℕ) → Answer-accepted o st b a → Grows st (effect o st (answer b a))
+  answer-grows : (b a : ℕ) → Answer-accepted o st b a → Grows st (effect o st (answer b a))
   unfolding effect
   answer-grows b a x = record {
     claims = λ s e. (e, refl);
@@ -200,23 +200,30 @@ module _ (o : Opening) (st : State) (inv : Inv o st) where
     casts = λ s c y e. e;
   }
 
-  answer-keeps : (b a : ℕ) → Answer-accepted o st b a → Inv o (effect o st (answer b a))
+  answer-keeps : (b a : ℕ) → Answer-accepted o st b a → Kept o st (effect o st (answer b a))
   unfolding effect
   answer-keeps b a x = record {
-    parts = λ s. part-grows o st _ (answer-grows b a x) s _ _ _ (inv .parts s);
-    answers = λ c y.
-        update-ind (λ (z : Option Bool). z ≡ some y → (s : ℕ) × (s < o .count) × (st .station s .cast c ≡ some y)) (st .answer-of) b (some (as-bit a)) c
-        (λ q e. (x .voter, x .below, ap (st .station (x .voter) .cast) q ∙ x .was-cast ∙ e))
-        (λ ne e. inv .answers c y e);
+    inv = record {
+      parts = λ s. part-grows o st _ (answer-grows b a x) s _ _ _ (inv .parts s);
+      answers = λ c y.
+          update-ind (λ (z : Option Bool). z ≡ some y → (s : ℕ) × (s < o .count) × (st .station s .cast c ≡ some y)) (st .answer-of) b (some (as-bit a)) c
+          (λ q e. (x .voter, x .below, ap (st .station (x .voter) .cast) q ∙ x .was-cast ∙ e))
+          (λ ne e. inv .answers c y e);
+    };
+    grows = answer-grows b a x;
   }
 
-  pub event-keeps : (e : Event) → number o st e ≡ 0 → Inv o (effect o st e)
+  event-keeps : (e : Event) → number o st e ≡ 0 → Kept o st (effect o st e)
   unfolding effect
   event-keeps (claim s v) n = claim-keeps s v (claim-accepted o st s v n)
   event-keeps (deliver t s) n = deliver-keeps t s (deliver-accepted o st t s n)
   event-keeps (step s) n = step-event-keeps s (step-accepted o st s n)
   event-keeps (lose s) n = lose-keeps s
   event-keeps (answer b a) n = answer-keeps b a (answer-accepted o st b a n)
+
+  -- any event, accepted or refused
+  pub next-kept : (e : Event) → Kept o st (next o st e)
+  next-kept e = next-ind (Kept o st) o st e (record { inv = inv; grows = grows-refl st }) (event-keeps e)
 
 pub fresh-inv : (o : Opening) → Inv o fresh
 fresh-inv o = record {
@@ -233,4 +240,4 @@ fresh-inv o = record {
 pub reached : (o : Opening) (h : History) → Inv o (after o h)
 unfolding after
 reached o start = fresh-inv o
-reached o (h ▷ e) = next-ind (Inv o) o (after o h) e (reached o h) (event-keeps o (after o h) (reached o h) e)
+reached o (h ▷ e) = next-kept o (after o h) (reached o h) e .inv

@@ -1,5 +1,5 @@
 -- What one event does to one station: its accepted STEP moves it as `step-from` says; a CLAIM takes it from idle to waiting; nothing else
--- touches its stage. Answers stay. Assumes nothing.
+-- touches its stage. Assumes nothing.
 use Prim.Native.Nat.{ℕ, zero, suc, _<_, _≤_}
 use mathlib.Core.Path.{_≡_, refl, sym, subst, _∙_, ap}
 use mathlib.Core.Logic.{_⊎_, inl, inr}
@@ -12,8 +12,7 @@ use Rattle.consensus.specs.State.{Stage, idle, waiting, Station, State, 
 use Rattle.consensus.specs.Rules.{number, step-from, effect, next, after, claiming, holding, losing}
 use Rattle.consensus.specs.Words.{is-step, accepts, takes}
 use Rattle.consensus.proofs.Basics.{by-bool, no-clash, update-ind, update-same, and-true}
-use Rattle.consensus.proofs.Reached.{next-ind, claim-accepted, idle-of, answer-grows, answer-accepted}
-use Rattle.consensus.proofs.Invariant.{Inv}
+use Rattle.consensus.proofs.Reached.{next-ind, claim-accepted, idle-of}
 
 pub next-accepted : (o : Opening) (st : State) (e : Event) → number o st e ≡ 0 → next o st e ≡ effect o st e
 unfolding next
@@ -76,15 +75,3 @@ module _ (o : Opening) (st : State) (p : ℕ) where
       go (step s) n f = update-ind (λ (y : Station). Untaken (y .stage)) (st .station) s _ p (λ q. absurd (f (ap step (sym q)))) (λ ne. inl refl)
       go (lose s) n f = keep s _ refl
       go (answer b a) n f = inl refl
-
--- an answer stands
-pub answer-stays : (o : Opening) (st : State) → Inv o st → (e : Event) (b : ℕ) (a : Bool) → st .answer-of b ≡ some a → next o st e .answer-of b ≡ some a
-unfolding effect
-answer-stays o st inv e b a x = next-ind (λ (y : State). y .answer-of b ≡ some a) o st e x (go e)
-  where
-    go : (e : Event) → number o st e ≡ 0 → effect o st e .answer-of b ≡ some a
-    go (claim s v) n = x
-    go (deliver t s) n = x
-    go (step s) n = x
-    go (lose s) n = x
-    go (answer c y) n = answer-grows o st inv c y (answer-accepted o st c y n) .answers b a x

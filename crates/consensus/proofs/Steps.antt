@@ -18,7 +18,7 @@ use Rattle.consensus.specs.State.{Stage, idle, waiting, voting, awaiting
 use Rattle.consensus.specs.Rules.{bit-ballot, bit-ballot-by, finish-ballot, spelled, refuse, last-refusal, stage-number, first-stage, found, sought, finished, step-from}
 use Rattle.consensus.proofs.Basics.{by-bool, cond-ind, no-clash, update-ind, update-same, update-other, refused-not, not-false→true, and-true}
 use Rattle.consensus.proofs.Invariant.{Fits, Word, Candidate, Unfinished, Round, Round-by, Bit-cast, Finish-cast, Cast-ok, Spelling, Seeking, Decided-by, Stage-ok, Part-ok, Inv, votes, votes-by}
-use Rattle.consensus.proofs.Own.{Move, moved, move-inv}
+use Rattle.consensus.proofs.Own.{Kept, Move, moved, move-kept}
 use Rattle.consensus.proofs.Spelling
 
 abbrev pub opening : ℕ → Rule → Opening
@@ -127,8 +127,8 @@ module _ (o : Opening) (st : State) (s : ℕ) (inv : Inv o st) (below : s < o .c
 
   -- another stage, and the same casts
   restage : (g g' : Stage) → Part g → not-idle g' ≡ true → ((b : ℕ) → votes o g' ≤ b → votes o g ≤ b) → Stage-ok o st g' holds cast
-      → Inv o (set-station st s (moved st s g' cast))
-  restage g g' x active more ok = move-inv o st s g' cast inv (record {
+      → Kept o st (set-station st s (moved st s g' cast))
+  restage g g' x active more ok = move-kept o st s g' cast inv (record {
     station = below;
     active = active;
     kept = λ b a e. e;
@@ -140,8 +140,8 @@ module _ (o : Opening) (st : State) (s : ℕ) (inv : Inv o st) (below : s < o .c
   -- another stage, and a vote a in the ballot b, the first that the station has not voted in
   recast : (g g' : Stage) (b : ℕ) (a : Bool) → Part g → not-idle g' ≡ true → votes o g ≡ b → votes o g' ≡ suc b → Cast-ok o st b a
       → (((c : ℕ → Option Bool) → c b ≡ some a → Stage-ok o st g' holds c))
-      → Inv o (set-station st s (moved st s g' (update cast b (some a))))
-  recast g g' b a x active was is reason ok = move-inv o st s g' (update cast b (some a)) inv (record {
+      → Kept o st (set-station st s (moved st s g' (update cast b (some a))))
+  recast g g' b a x active was is reason ok = move-kept o st s g' (update cast b (some a)) inv (record {
     station = below;
     active = active;
     kept = λ i y e.
@@ -165,7 +165,7 @@ module _ (o : Opening) (st : State) (s : ℕ) (inv : Inv o st) (below : s < o .c
   own-candidate : (k j : ℕ) (g : Stage) → Part g → holds j ≡ true → Fits o st k j → Candidate o st k j
   own-candidate k j g x e f = record { holder = s; is-held = e; is-claimed = claimed-of g x j e; fits = f }
 
-  from-voting : (j k d : ℕ) → Part (voting j k d) → Inv o (set-station st s (step-from o st s (voting j k d) (st .station s)))
+  from-voting : (j k d : ℕ) → Part (voting j k d) → Kept o st (set-station st s (step-from o st s (voting j k d) (st .station s)))
   unfolding step-from
   from-voting j k d x =
       recast (voting j k d) (awaiting j k d) (bit-ballot o k) (bit k (spelled o st j)) x refl refl refl
@@ -182,7 +182,7 @@ module _ (o : Opening) (st : State) (s : ℕ) (inv : Inv o st) (below : s < o .c
       (λ c e. (x .stage, e))
 
   from-awaiting : (j k d : ℕ) → Part (awaiting j k d) → stage-number o st s (awaiting j k d) ≡ 0
-      → Inv o (set-station st s (step-from o st s (awaiting j k d) (st .station s)))
+      → Kept o st (set-station st s (step-from o st s (awaiting j k d) (st .station s)))
   unfolding step-from stage-number
   from-awaiting j k d x e =
       let a = bit-of (st .answer-of (bit-ballot o k)) in
@@ -195,10 +195,10 @@ module _ (o : Opening) (st : State) (s : ℕ) (inv : Inv o st) (below : s < o .c
         candidate = Spelling.answer-candidate o st inv k a ans;
       })
 
-  restaged : (g g' : Stage) → Part g → Restaged o st s g g' → Inv o (set-station st s (moved st s g' cast))
+  restaged : (g g' : Stage) → Part g → Restaged o st s g g' → Kept o st (set-station st s (moved st s g' cast))
   restaged g g' x r = restage g g' x (r .active) (r .more) (r .ok)
 
-  from-waiting : Part waiting → claimed st s ≡ true → stage-number o st s waiting ≡ 0 → Inv o (set-station st s (step-from o st s waiting (st .station s)))
+  from-waiting : Part waiting → claimed st s ≡ true → stage-number o st s waiting ≡ 0 → Kept o st (set-station st s (step-from o st s waiting (st .station s)))
   unfolding step-from stage-number
   from-waiting x c e =
       restaged waiting _ x (first-ok (o .count) (o .rule) st s below (not-false→true _ (refused-not _ 8 0 refl e .0)) c)
@@ -210,7 +210,7 @@ module _ (o : Opening) (st : State) (s : ℕ) (inv : Inv o st) (below : s < o .c
     ok = record { round = x .round; word = x .word; cursor = l; source = x .source; candidate = x .candidate };
   }
 
-  from-seeking : (j k d : ℕ) → Part (seeking j k d) → Inv o (set-station st s (step-from o st s (seeking j k d) (st .station s)))
+  from-seeking : (j k d : ℕ) → Part (seeking j k d) → Kept o st (set-station st s (step-from o st s (seeking j k d) (st .station s)))
   unfolding step-from
   from-seeking j k d x =
       let i = (j + 1) % o .count in
@@ -239,7 +239,7 @@ module _ (o : Opening) (st : State) (s : ℕ) (inv : Inv o st) (below : s < o .c
         unfinished = Spelling.unfinished-of o st r k (y .round);
       }
 
-  from-finish-voting : (j k d : ℕ) → Part (finish-voting j k d) → Inv o (set-station st s (step-from o st s (finish-voting j k d) (st .station s)))
+  from-finish-voting : (j k d : ℕ) → Part (finish-voting j k d) → Kept o st (set-station st s (step-from o st s (finish-voting j k d) (st .station s)))
   unfolding step-from
   from-finish-voting j k d x =
       recast (finish-voting j k d) (finish-awaiting j k d) (finish-ballot k) (eqb d (claim-of st j)) x refl refl refl
@@ -280,7 +280,7 @@ module _ (o : Opening) (st : State) (s : ℕ) (inv : Inv o st) (below : s < o .c
       }
 
   from-finish-awaiting : (j k d : ℕ) → Part (finish-awaiting j k d) → stage-number o st s (finish-awaiting j k d) ≡ 0
-      → Inv o (set-station st s (step-from o st s (finish-awaiting j k d) (st .station s)))
+      → Kept o st (set-station st s (step-from o st s (finish-awaiting j k d) (st .station s)))
   unfolding step-from stage-number
   from-finish-awaiting j k d x e = restaged (finish-awaiting j k d) _ x (go _ (some-answer _ (not-false→true _ (refused-not _ 8 _ refl e .0))))
     where
@@ -289,10 +289,10 @@ module _ (o : Opening) (st : State) (s : ℕ) (inv : Inv o st) (below : s < o .c
       go false f = finish-goes-on j k d (x .stage .0) (x .stage .1) f
 
   -- every accepted STEP, by the stage g that the station is at
-  pub step-keeps : (g : Stage) → st .station s .stage ≡ g → stage-number o st s g ≡ 0 → Inv o (set-station st s (step-from o st s g (st .station s)))
+  pub step-keeps : (g : Stage) → st .station s .stage ≡ g → stage-number o st s g ≡ 0 → Kept o st (set-station st s (step-from o st s g (st .station s)))
   step-keeps g e n = go g (subst Part e (inv .parts s)) (λ a. ap not-idle e ∙ a) n
     where
-      go : (g : Stage) → Part g → (not-idle g ≡ true → claimed st s ≡ true) → stage-number o st s g ≡ 0 → Inv o (set-station st s (step-from o st s g (st .station s)))
+      go : (g : Stage) → Part g → (not-idle g ≡ true → claimed st s ≡ true) → stage-number o st s g ≡ 0 → Kept o st (set-station st s (step-from o st s g (st .station s)))
       go idle x c n = absurd (idle-refused o st s n)
       go waiting x c n = from-waiting x (c refl) n
       go (voting j k d) x c n = from-voting j k d x

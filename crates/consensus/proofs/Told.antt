@@ -20,8 +20,8 @@ use Rattle.consensus.proofs.Basics.{by-bool, cond-ind, no-clash, update
 use Rattle.consensus.proofs.Invariant.{Part-ok, Inv, votes, votes-by}
 use Rattle.consensus.proofs.Spelling.{below-suc}
 use Rattle.consensus.proofs.Steps.{one-station, opening, idle-refused, decided-refused}
-use Rattle.consensus.proofs.Reached.{next-ind, answer-accepted, step-accepted, unanswered-none, reached}
-use Rattle.consensus.proofs.Station.{Taken, taken, taken-station, taken-answers, untaken, next-accepted, answer-stays}
+use Rattle.consensus.proofs.Reached.{next-ind, answer-accepted, step-accepted, unanswered-none, next-kept, reached}
+use Rattle.consensus.proofs.Station.{Taken, taken, taken-station, taken-answers, untaken}
 
 -- ---- the first accepted ANSWER is the answer that the play keeps
 
@@ -132,7 +132,7 @@ finished-moves-by : (n : ℕ) (a : Bool) (j k d : ℕ) → Moves (opening n byCl
 finished-moves-by n true j k d = record { waits = refl; voted = refl; answers = (refl, refl) }
 finished-moves-by n false j k d = record { waits = refl; voted = omega arith; answers = (refl, omega arith) }
 
-by-claim : (o : Opening) → o .rule ≡ byClaim → opening (o .count) byClaim ≡ o
+pub by-claim : (o : Opening) → o .rule ≡ byClaim → opening (o .count) byClaim ≡ o
 by-claim o r = λ i. record { count = o .count; rule = sym r i }
 
 step-moves : (o : Opening) (st : State) (s : ℕ) (g : Stage) (p : Station) (holds : ℕ → Bool) (cast : ℕ → Option Bool)
@@ -266,7 +266,7 @@ module _ (o : Opening) (p : ℕ) where
       (adds-below (waiting-ballot o (stage-after h)) (after o h .answer-of) _ _ (moves-after h e t .answers) (waited-after h e t) (taken-answered h) i l))
       (λ t.
       let a = some-of _ (taken-answered h i (subst (λ (y : ℕ). i < y) (sym (stays (answers-count o) refl h e t)) l)) in
-      ap answered (answer-stays o (after o h) (reached o h) e i (a .0) (a .1)))
+      ap answered (next-kept o (after o h) (reached o h) e .grows .answers i (a .0) (a .1)))
 
   pub answers-shown : (h : History) → answers-taken o p h ≡ answers-up-to (after o h .answer-of) (answers-count o (stage-after h))
   unfolding answers-taken after answers-up-to
@@ -297,7 +297,7 @@ module _ (o : Opening) (p : ℕ) where
           ∙ append-nil (answers-taken o p h)
           ∙ ih
           ∙ answers-same f (next o (after o h) e .answer-of) (answers-count o g)
-          (λ i l. let a = some-of _ (taken-answered h i l) in a .1 ∙ sym (answer-stays o (after o h) (reached o h) e i (a .0) (a .1)))
+          (λ i l. let a = some-of _ (taken-answered h i l) in a .1 ∙ sym (next-kept o (after o h) (reached o h) e .grows .answers i (a .0) (a .1)))
           ∙ ap (answers-up-to (next o (after o h) e .answer-of)) (stays (answers-count o) refl h e t)
 
   -- a decided station takes no step

@@ -2,7 +2,7 @@
 use Prim.Native.Nat.{ℕ, _+_, _*_, _≤_}
 use mathlib.Core.Path.{_≡_}
 use lib.ListN.{length}
-use Rattle.consensus.specs.Events.{step, History, Rule, byStation, byClaim, Opening, Accepts, rounds}
+use Rattle.consensus.specs.Events.{Event, step, History, Rule, byStation, byClaim, Opening, Accepts, rounds}
 use Rattle.consensus.specs.Rules.{number, after}
 use Rattle.consensus.specs.Words.{Beginning, Claims-fit, Put-in, Lost, voted-in, answers-taken, Decided, longest, Supplied, Supplied-steps}
 
@@ -38,3 +38,7 @@ module _ (o : Opening) (h : History) where
 -- Demand 3 about the play: every accepted opening, both rules, every list of events whose claims are claims.
 pub record Demand3 : Type 0 where
   pub holds : (o : Opening) → Accepts o → (h : History) → Claims-fit h → Demand3-of o h
+
+-- "Taking answer 0 from ballot 63, met only by a made-up record: 42": no event of a list meets 42.
+pub record No-42 : Type 0 where
+  pub holds : (o : Opening) (h : History) → Claims-fit h → (e : Event) → number o (after o h) e ≡ 42 → ⊥

@@ -4,8 +4,24 @@
 --     Rules       what each event is refused for, and what it does (document 01)
 --     Words       the words of demand 3, read off a list of events
 --     Demand3     demand 3 about the play
+--     Figure      one process of a figure: a line, and an event made of lines
+--     Figure1     the paper's figure 1, line by line
+--     Figure2     the paper's figure 2, line by line
+--     System      processes that may crash, broadcasts and binary consensus instances
+--     Runs        what may happen in the system, and the runs of a figure
+--     Demand2     demand 2 about the play
+--     Lines       runs of single printed lines end where the play ends
+--     Examples    lists that tell the four false readings apart
 pub mod Events
 pub mod State
 pub mod Rules
 pub mod Words
 pub mod Demand3
+pub mod Figure
+pub mod Figure1
+pub mod Figure2
+pub mod System
+pub mod Runs
+pub mod Demand2
+pub mod Lines
+pub mod Examples

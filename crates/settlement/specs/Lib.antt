@@ -7,6 +7,8 @@
 --     Events    OPEN and the five events, whole
 --     Look      LOOK, whole
 --     Demand1   demand 1, as one law over every event and every record
+--     Link      the records that a list of events leads to, beside the play
+--     Demands   demands 2 and 3 about the operations, over whole lists
 pub mod Record
 pub mod Fault
 pub mod Tests
@@ -15,3 +17,5 @@ pub mod Step
 pub mod Events
 pub mod Look
 pub mod Demand1
+pub mod Link
+pub mod Demands

@@ -1,0 +1,92 @@
+-- Demand 2 about the play: the figure's run shows the play after every list, since it does at the opening and each event has
+-- one verdict in both. Assumes nothing.
+use Prim.Native.Nat.{ℕ}
+use mathlib.Core.Path.{_≡_, refl, sym, subst, ap, _∙_}
+use mathlib.Core.Bool.{Bool, true, false, cond}
+use mathlib.Core.Option.{Option, none, some, Option·some-injective, Option·none-ne-some}
+use lib.Dec.{eqb}
+use borrow.Author.Tests.{ne-eqb}
+use Rattle.consensus.specs.Events.{Event, claim, deliver, step, lose, answer, History, start, _▷_, Rule, byStation, byClaim, Opening, Accepts}
+use Rattle.consensus.specs.State.{State, idle}
+use Rattle.consensus.specs.Rules.{number, effect, next, after}
+use Rattle.consensus.specs.Words.{Claims-fit}
+use Rattle.consensus.specs.Figure.{event}
+use Rattle.consensus.specs.Runs.{Label, broadcast, delivery, advance, crash, decide, label-of, stay, takes, run}
+use Rattle.consensus.specs.Demand2.{figure-by, figure-of, place-by, Figure-state, Shows, Step, figure-after, Demand2-of, Demand2}
+use Rattle.consensus.proofs.Reached.{reached}
+use Rattle.consensus.proofs.Station.{next-accepted}
+use Rattle.consensus.proofs.Alike.{Verdict, both, neither}
+use Rattle.consensus.proofs.Ballots.{in-bounds}
+use Rattle.consensus.proofs.Shown.{Judged, verdict}
+
+first-shown : (r : Rule) → place-by r idle ≡ some (figure-by r .first)
+first-shown byStation = refl
+first-shown byClaim = refl
+
+next-refused : (o : Opening) (st : State) (e : Event) → (number o st e ≡ 0 → ⊥) → next o st e ≡ st
+unfolding next
+next-refused o st e z = ap (λ (b : Bool). cond b (effect o st e) st) (ne-eqb _ 0 z)
+
+module _ (o : Opening) (st : State) (x : Figure-state o) (e : Event) where
+  -- where both go on the states after show each other, and else both stay
+  next-shown : Shows o st x → Judged o st x e → Shows o (next o st e) (stay x (takes (o .count) (event (figure-of o)) x e))
+  next-shown h (both z y t w) = subst (λ (s : State). Shows o s (stay x (takes (o .count) (event (figure-of o)) x e))) (sym (next-accepted o st e z)) (
+      subst (λ (m : Option (Figure-state o)). Shows o (effect o st e) (stay x m)) (sym t) w
+      )
+  next-shown h (neither z t) = subst (λ (s : State). Shows o s (stay x (takes (o .count) (event (figure-of o)) x e))) (sym (next-refused o st e z)) (
+      subst (λ (m : Option (Figure-state o)). Shows o st (stay x m)) (sym t) h
+      )
+
+  accepted-step : number o st e ≡ 0 → Judged o st x e → (y : Figure-state o) × Step o x e y × Shows o (next o st e) y
+  accepted-step n (both z y t w) = (y, t, subst (λ (s : State). Shows o s y) (sym (next-accepted o st e z)) w)
+  accepted-step n (neither z t) = absurd (z n)
+
+  allowed-step : (y : Figure-state o) → Step o x e y → Judged o st x e → (number o st e ≡ 0) × Shows o (next o st e) y
+  allowed-step y q (both z y' t w) = (
+    z,
+    subst (λ (s : State). Shows o s y) (sym (next-accepted o st e z))
+        (subst (λ (m : Figure-state o). Shows o (effect o st e) m) (Option·some-injective y' y (sym t ∙ q)) w),
+  )
+  allowed-step y q (neither z t) = absurd (Option·none-ne-some y (sym t ∙ q))
+
+module _ (o : Opening) (ok : Accepts o) where
+  pub shown : (h : History) → Claims-fit h → Shows o (after o h) (figure-after o h)
+  unfolding after run
+  shown start fit = record {
+    place = λ s. first-shown (o .rule);
+    prop = λ s t. refl;
+    sent = λ s. refl;
+    delivered = λ s t. refl;
+    proposed = λ s b. refl;
+    crashed = λ s. refl;
+    decision = λ b. refl;
+  }
+  shown (h ▷ e) fit =
+      next-shown o (after o h) (figure-after o h) e (shown h (fit .0))
+      (verdict o (after o h) (figure-after o h) (shown h (fit .0)) (reached o h) (in-bounds o h (fit .0)) ok e)
+
+  pub same-verdict : (h : History) → Claims-fit h → (e : Event) → Judged o (after o h) (figure-after o h) e
+  same-verdict h fit e = verdict o (after o h) (figure-after o h) (shown h fit) (reached o h) (in-bounds o h fit) ok e
+
+  demand2-of : (h : History) → Claims-fit h → Demand2-of o h
+  unfolding after
+  demand2-of h fit = record {
+    shown = shown h fit;
+    accepted = λ e z. accepted-step o (after o h) (figure-after o h) e z (same-verdict h fit e);
+    allowed = λ e y t. allowed-step o (after o h) (figure-after o h) e y t (same-verdict h fit e);
+  }
+
+every-label : (l : Label) → (e : Event) × (label-of e ≡ some l)
+every-label (broadcast s v) = (claim s v, refl)
+every-label (delivery t s) = (deliver t s, refl)
+every-label (advance s) = (step s, refl)
+every-label (crash s) = (lose s, refl)
+every-label (decide b true) = (answer b 1, refl)
+every-label (decide b false) = (answer b 0, refl)
+
+pub demand2 : Demand2
+demand2 = record {
+  holds = λ o ok h fit. demand2-of o ok h fit;
+  every-label = every-label;
+  one-outcome = λ o x y z e p q. Option·some-injective y z (sym p ∙ q);
+}

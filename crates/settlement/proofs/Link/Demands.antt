@@ -1,0 +1,257 @@
+-- Demands 2 and 3 about the operations: the record is tied to the play after every list, so numbers are the same, and LOOK reads off the entry
+-- what the list tells of the station. Assumes nothing.
+use Prim.Native.Nat.{ℕ, zero, suc, _+_, _*_, _<_, _≤_}
+use mathlib.Core.Path.{_≡_, refl, sym, subst, _∙_, ap, ap₂}
+use mathlib.Core.Logic.{_↔_}
+use mathlib.Core.Bool.{Bool, true, false, cond, not, _||_}
+use mathlib.Core.Option.{Option, none, some, Option·none-ne-some, Option·some-injective}
+use mathlib.Core.List.{List}
+use native.Mathlib.Omega.{arith}
+use native.Mathlib.Nat.{not-le-of-lt}
+use native.Mathlib.Numerals.{add-one}
+use lib.Dec.{eqb, ltb}
+use lib.ListN.{length, getD, replicate, length-replicate}
+use borrow.Author.Tests.{eqb-true, ne-eqb, le-ltb, lt-ltb, ltb-true, ltb-false}
+use Rattle.bits.specs.Log.{ceilLog2}
+use Rattle.bits.proofs.Masks.{member-none}
+use Rattle.consensus.specs.Events.{Event, History, start, _▷_, Rule, byStation, byClaim, Opening, Accepts}
+use Rattle.consensus.specs.State as play
+use Rattle.consensus.specs.Rules as rules
+use Rattle.consensus.specs.Rules.{refuse, any-below}
+use Rattle.consensus.specs.Words.{decision, voted-in, Decided, Claims-fit}
+use Rattle.consensus.proofs.Basics.{by-bool, no-clash}
+use Rattle.consensus.proofs.Invariant as invariant
+use Rattle.consensus.proofs.Reached.{reached}
+use Rattle.consensus.proofs.Ballots.{Short, round-below}
+use Rattle.consensus.proofs.Told.{stage-after, voted-shown, decided-shown, shown-decided}
+use Rattle.consensus.proofs.Agree.{length-up-to}
+use Rattle.consensus.proofs.Demand3 as play-proofs
+use Rattle.consensus.proofs.Figures as figure-proofs
+use Rattle.settlement.specs.declared.record.Stage.{Stage}
+use Rattle.settlement.specs.declared.record.Stage.the-variants.{Idle, Waiting, Voting, Awaiting, Seeking, FinishVoting, FinishAwaiting, Decided as Has-decided}
+use Rattle.settlement.specs.declared.record.Station.{Station}
+use Rattle.settlement.specs.declared.record.Settlement.{Settlement}
+use Rattle.settlement.specs.declared.record.Standing.{Standing}
+use Rattle.settlement.specs.Record.{stationEntries, ballotEntries, blank-station, blank-ballot, entry, is-decided, no-station, was-cast}
+use Rattle.settlement.specs.Fault.{fault}
+use Rattle.settlement.specs.Tests.{first-met, open-tests, look-tests, number}
+use Rattle.settlement.specs.Events.{outcome, fresh, blank, opened, next, played}
+use Rattle.settlement.specs.Look.{votes, standing, turned-away, looked}
+use Rattle.settlement.specs.Link.{rule-number, record-after, stage-of, answer-in}
+use Rattle.settlement.specs.Demands.{Told, Sound, Demand2-of-records, Demand3-of-records, Demands}
+use Rattle.settlement.proofs.Link.Linked.{Entry-shows, Linked, linked-shows}
+use Rattle.settlement.proofs.Link.Faultless.{none-below, rule-known, faultless}
+use Rattle.settlement.proofs.Link.Numbers.{bit-ballot-same, number-same}
+use Rattle.settlement.proofs.Link.Effects.{effect-linked}
+
+-- ---- OPEN
+
+open-accepted : (o : Opening) → Accepts o → first-met (open-tests (o .count) (rule-number (o .rule))) ≡ 0
+unfolding first-met
+open-accepted o a =
+    let low : eqb (o .count) 0 ≡ false = ne-eqb (o .count) 0 (λ e. let l = a .some-station in omega arith) in
+    ap₂ (λ (x y : Bool). refuse (x || y) 40 (refuse (not (eqb (rule-number (o .rule)) 1 || eqb (rule-number (o .rule)) 2)) 41 0)) low (le-ltb stationEntries (o .count) (a .not-too-many))
+    ∙ ap (λ (x : Bool). refuse x 41 0) (rule-known (o .rule))
+
+opened-fresh : (o : Opening) → Accepts o → opened (o .count) (rule-number (o .rule)) ≡ record { number = 0; settlement = fresh (o .count) (rule-number (o .rule)) }
+unfolding opened outcome
+opened-fresh o a = ap (λ (k : ℕ). outcome k (fresh (o .count) (rule-number (o .rule))) blank) (open-accepted o a)
+
+all-blank : {A : Type 0} (n i : ℕ) (x : A) → getD (replicate n x) i x ≡ x
+all-blank zero i x = refl
+all-blank (suc n) zero x = refl
+all-blank (suc n) (suc i) x = all-blank n i x
+
+fresh-linked : (o : Opening) → Accepts o → Linked o (fresh (o .count) (rule-number (o .rule))) play.fresh
+fresh-linked o a = record {
+  count = refl;
+  rule = refl;
+  stations = length-replicate stationEntries blank-station;
+  ballots = length-replicate ballotEntries blank-ballot;
+  entries = λ s b.
+      subst (λ (t : Station). Entry-shows (o .count) t play.untouched) (sym (all-blank stationEntries s blank-station))
+      (record { stage = refl; claim = refl; holds = λ i. member-none i; lost = refl; cursor = a .some-station; early = (refl, refl) });
+  answer = λ b. ap answer-in (all-blank ballotEntries b blank-ballot);
+  cast = λ b y.
+      ap (λ t. was-cast t y) (all-blank ballotEntries b blank-ballot)
+      ∙ blank-uncast y
+      ∙ sym (none-below (o .count) (λ s. false) (λ i l. refl));
+}
+  where
+    blank-uncast : (y : Bool) → was-cast blank-ballot y ≡ false
+    blank-uncast true = refl
+    blank-uncast false = refl
+
+-- ---- lists
+
+module _ (o : Opening) (a : Accepts o) where
+  next-linked : (r : Settlement) (st : play.State) → Linked o r st → invariant.Inv o st → Short o st → (e : Event)
+      → Linked o (played r e .settlement) (rules.next o st e)
+  unfolding played outcome rules.next
+  next-linked r st l inv short e =
+      let same = number-same o a r st l inv short e in
+      subst (λ (k : ℕ). Linked o (cond (eqb k 0) (next r e) r) (cond (eqb (rules.number o st e) 0) (rules.effect o st e) st)) (sym same)
+      (by-bool (eqb (rules.number o st e) 0)
+      (λ t. subst (λ (b : Bool). Linked o (cond b (next r e) r) (cond b (rules.effect o st e) st)) (sym t) (effect-linked o a r st l inv short e (eqb-true _ 0 t)))
+      (λ t. subst (λ (b : Bool). Linked o (cond b (next r e) r) (cond b (rules.effect o st e) st)) (sym t) l))
+
+  pub linked-after : (h : History) → Claims-fit h → Linked o (record-after o h) (rules.after o h)
+  unfolding record-after rules.after
+  linked-after start f = subst (λ x. Linked o (x .settlement) play.fresh) (sym (opened-fresh o a)) (fresh-linked o a)
+  linked-after (h ▷ e) f = next-linked (record-after o h) (rules.after o h) (linked-after h (f .0)) (reached o h) (round-below o h (f .0)) e
+
+-- ---- LOOK
+
+decision-same : (g : Stage) (j k d v : ℕ) → decision (stage-of g j k d v) ≡ cond (is-decided g) (some v) none
+decision-same Idle j k d v = refl
+decision-same Waiting j k d v = refl
+decision-same Voting j k d v = refl
+decision-same Awaiting j k d v = refl
+decision-same Seeking j k d v = refl
+decision-same FinishVoting j k d v = refl
+decision-same FinishAwaiting j k d v = refl
+decision-same Has-decided j k d v = refl
+
+one-more : (q : Rule) (k : ℕ) → cond (eqb (rule-number q) 1) (k + 1) (2 * k + 1) ≡ suc (rules.bit-ballot-by q k)
+one-more byStation k = add-one k
+one-more byClaim k = add-one (2 * k)
+
+-- votes by stage, for each rule
+votes-same-by : (n : ℕ) (q : Rule) (r : Settlement) → r .count ≡ n → r .rule ≡ rule-number q → (t : Station) (g : Stage)
+    → votes r t g ≡ invariant.votes (record { count = n; rule = q }) (stage-of g (t .cursor) (t .round) (t .word) (t .decision))
+unfolding votes
+votes-same-by n q r c e t Idle = refl
+votes-same-by n q r c e t Waiting = refl
+votes-same-by n q r c e t Voting = ap (λ (x : ℕ). cond (eqb x 1) (t .round) (2 * t .round)) e ∙ bit-ballot-same q (t .round)
+votes-same-by n q r c e t Awaiting = ap (λ (x : ℕ). cond (eqb x 1) (t .round + 1) (2 * t .round + 1)) e ∙ one-more q (t .round)
+votes-same-by n q r c e t Seeking = ap (λ (x : ℕ). cond (eqb x 1) (t .round + 1) (2 * t .round + 1)) e ∙ one-more q (t .round)
+votes-same-by n q r c e t FinishVoting = refl
+votes-same-by n q r c e t FinishAwaiting = omega arith
+votes-same-by n q r c e t Has-decided =
+    ap₂ (λ (x m : ℕ). cond (eqb x 1) (ceilLog2 m) (2 * t .round + 2)) e c ∙ all-votes q
+  where
+    all-votes : (q : Rule) → cond (eqb (rule-number q) 1) (ceilLog2 n) (2 * t .round + 2) ≡ invariant.votes-by q (record { count = n; rule = q }) (play.decided (t .decision) (t .round))
+    all-votes byStation = refl
+    all-votes byClaim = omega arith
+
+module _ (o : Opening) (a : Accepts o) (h : History) (f : Claims-fit h) where
+  abbrev r : Settlement
+  r = record-after o h
+
+  linked : Linked o r (rules.after o h)
+  linked = linked-after o a h f
+
+  clear : fault r ≡ false
+  clear = faultless o a r (rules.after o h) linked (reached o h) (round-below o h f)
+
+  look-number : (s : ℕ) → first-met (look-tests r s) ≡ refuse (no-station r s) 1 0
+  unfolding first-met
+  look-number s = ap (λ (b : Bool). refuse b 42 (refuse (no-station r s) 1 0)) clear
+
+  look-inside : (s : ℕ) → s < o .count → looked r s ≡ standing r (entry r s)
+  unfolding looked
+  look-inside s b =
+      ap (λ (k : ℕ). cond (eqb k 0) (standing r (entry r s)) (turned-away k))
+      (look-number s ∙ ap (λ (x : Bool). refuse (not x) 1 0) (lt-ltb s (r .count) (subst (λ (n : ℕ). s < n) (sym (linked .count)) b)))
+
+  look-outside : (s : ℕ) → o .count ≤ s → looked r s ≡ turned-away 1
+  unfolding looked
+  look-outside s b =
+      ap (λ (k : ℕ). cond (eqb k 0) (standing r (entry r s)) (turned-away k))
+      (look-number s ∙ ap (λ (x : Bool). refuse (not x) 1 0) (le-ltb s (r .count) (subst (λ (n : ℕ). n ≤ s) (sym (linked .count)) b)))
+
+  look-votes : (s : ℕ) → s < o .count → votes r (entry r s) (entry r s .stage) ≡ length (voted-in o s h)
+  look-votes s b =
+      votes-same-by (o .count) (o .rule) r (linked .count) (linked .rule) (entry r s) (entry r s .stage)
+      ∙ ap (invariant.votes o) (linked .entries s b .stage)
+      ∙ sym (ap length (voted-shown o s h) ∙ length-up-to _)
+
+  -- what the entry says of a decision is what the list tells
+  entry-decision : (s : ℕ) → s < o .count → cond (is-decided (entry r s .stage)) (some (entry r s .decision)) none ≡ decision (stage-after o s h)
+  entry-decision s b =
+      sym (decision-same (entry r s .stage) (entry r s .cursor) (entry r s .round) (entry r s .word) (entry r s .decision))
+      ∙ ap decision (linked .entries s b .stage)
+
+  abbrev told-as : Bool → ℕ → ℕ → Standing
+  told-as d v k = record { number = 0; decided = d; claim = v; votes = k }
+
+  entry-decided : (s v : ℕ) → s < o .count → Decided o s v h → (is-decided (entry r s .stage) ≡ true) × (entry r s .decision ≡ v)
+  entry-decided s v b d = go (is-decided (entry r s .stage)) (entry-decision s b ∙ decided-shown o s v h d)
+    where
+      go : (x : Bool) → cond x (some (entry r s .decision)) none ≡ some v → (x ≡ true) × (entry r s .decision ≡ v)
+      go true e = (refl, Option·some-injective _ v e)
+      go false e = absurd (Option·none-ne-some v e)
+
+  entry-undecided : (s : ℕ) → s < o .count → ((v : ℕ) → Decided o s v h → ⊥) → is-decided (entry r s .stage) ≡ false
+  entry-undecided s b n =
+      by-bool (is-decided (entry r s .stage))
+      (λ e.
+      absurd
+      (n (entry r s .decision)
+      (shown-decided o s (entry r s .decision) h (sym (entry-decision s b) ∙ ap (λ (x : Bool). cond x (some (entry r s .decision)) none) e))))
+      (λ e. e)
+
+  look-decided : (s v : ℕ) → s < o .count → Decided o s v h → looked r s ≡ told-as true v (length (voted-in o s h))
+  look-decided s v b d =
+      let x = entry-decided s v b d in
+      look-inside s b
+      ∙ ap (λ (y : Bool). told-as y (cond y (entry r s .decision) 0) (votes r (entry r s) (entry r s .stage))) (x .0)
+      ∙ ap₂ (told-as true) (x .1) (look-votes s b)
+
+  look-undecided : (s : ℕ) → s < o .count → ((v : ℕ) → Decided o s v h → ⊥) → looked r s ≡ told-as false 0 (length (voted-in o s h))
+  look-undecided s b n =
+      look-inside s b
+      ∙ ap (λ (y : Bool). told-as y (cond y (entry r s .decision) 0) (votes r (entry r s) (entry r s .stage))) (entry-undecided s b n)
+      ∙ ap (told-as false 0) (look-votes s b)
+
+  numbers : (e : Event) → played r e .number ≡ rules.number o (rules.after o h) e
+  unfolding played outcome
+  numbers e = number-same o a r (rules.after o h) linked (reached o h) (round-below o h f) e
+
+  told : Told o h
+  told = record { numbers = numbers; look-decided = look-decided; look-undecided = look-undecided; look-nobody = look-outside }
+
+  -- LOOK says decided: then the list tells which claim
+  decided-by-look : (s : ℕ) → looked r s .decided ≡ true → (v : ℕ) × (s < o .count) × Decided o s v h
+  decided-by-look s e =
+      by-bool (ltb s (o .count)) (λ t. inside (ltb-true s (o .count) t))
+      (λ t. no-clash (looked r s .decided) e (ap (λ (x : Standing). x .decided) (look-outside s (ltb-false s (o .count) t))))
+    where
+      inside : s < o .count → (v : ℕ) × (s < o .count) × Decided o s v h
+      inside b =
+          let x : is-decided (entry r s .stage) ≡ true = sym (ap (λ (y : Standing). y .decided) (look-inside s b)) ∙ e in (
+            entry r s .decision,
+            b,
+            shown-decided o s (entry r s .decision) h (sym (entry-decision s b) ∙ ap (λ (y : Bool). cond y (some (entry r s .decision)) none) x),
+          )
+
+  looks-agree : (p q : ℕ) → looked r p .decided ≡ true → looked r q .decided ≡ true → looked r p ≡ looked r q
+  looks-agree p q e g =
+      let x = decided-by-look p e in
+      let y = decided-by-look q g in
+      let same = play-proofs.demand3 .holds o a h f .agreement p q (x .0) (y .0) (x .2) (y .2) in
+      look-decided p (x .0) (x .1) (x .2)
+      ∙ ap₂ (told-as true) (same .claim) (ap length (same .ballots))
+      ∙ sym (look-decided q (y .0) (y .1) (y .2))
+
+  sound : Sound o h
+  sound = record { no-fault = clear; no-42 = λ e z. play-proofs.no-event-42 .holds o h f e (sym (numbers e) ∙ z) }
+
+  demand2 : Demand2-of-records o h
+  demand2 =
+      let d = figure-proofs.demand2 .holds o a h f in record {
+        accepted = λ e. (
+          λ z. let x = d .accepted e (sym (numbers e) ∙ z) in (x .0, x .1),
+          λ x. numbers e ∙ d .allowed e (x .0) (x .1) .0,
+        );
+        record-shows = linked-shows o r (rules.after o h) linked;
+        play-shows = d .shown;
+      }
+
+pub demands : Demands
+demands = record {
+  opens = λ o a. ap (λ x. x .number) (opened-fresh o a);
+  sound = sound;
+  demand2 = demand2;
+  demand3 = λ o a h f. record { told = told o a h f; demand = play-proofs.demand3 .holds o a h f; looks-agree = looks-agree o a h f };
+}

@@ -1,0 +1,209 @@
+-- What ties a record to a play's state: it shows the state, its arrays are whole, cursors are stations, and before the first vote round and
+-- word are 0. An event that replaces one entry keeps the tie where the new entry shows the station's new part. Assumes nothing.
+use Prim.Native.Nat.{ℕ, suc, _<_, _≤_}
+use mathlib.Core.Path.{_≡_, refl, sym, subst, _∙_, ap, fun-ext}
+use mathlib.Core.Bool.{Bool, true, false, cond, Bool·beq}
+use mathlib.Core.Option.{Option, none, some}
+use mathlib.Core.List.{List}
+use native.Mathlib.Nat.{lt-of-lt-of-le}
+use lib.Dec.{eqb}
+use lib.ListN.{length, getD, set, length-set}
+use lib.Seq.{getD-set-same, getD-set-other}
+use Rattle.bits.specs.Words.{member}
+use Rattle.consensus.specs.Events.{Rule, byStation, byClaim, Opening, Accepts}
+use Rattle.consensus.specs.State as play
+use Rattle.consensus.specs.Rules.{any-below, is-bit}
+use borrow.Author.Tests.{eqb-true, eqb-false}
+use Rattle.consensus.proofs.Basics.{by-bool, no-clash, any-true, update-ind, update-same, update-other}
+use Rattle.settlement.specs.declared.record.Stage.{Stage}
+use Rattle.settlement.specs.declared.record.Stage.the-variants.{Idle, Waiting, Voting, Awaiting, Seeking, FinishVoting, FinishAwaiting, Decided}
+use Rattle.settlement.specs.declared.record.Station.{Station}
+use Rattle.settlement.specs.declared.record.Ballot.{Ballot}
+use Rattle.settlement.specs.declared.record.Settlement.{Settlement}
+use Rattle.settlement.specs.Record.{stationEntries, ballotEntries, entry, ballot, with-station, with-ballot, was-cast, casting, answering}
+use Rattle.settlement.specs.Link.{rule-number, stands-at, answer-in, Shows-play}
+
+-- round and word before the first vote
+abbrev pub Early : Stage → (k d : ℕ) → Type 0
+Early Idle k d = (k ≡ 0) × (d ≡ 0)
+Early Waiting k d = (k ≡ 0) × (d ≡ 0)
+Early Voting k d = Unit {0}
+Early Awaiting k d = Unit {0}
+Early Seeking k d = Unit {0}
+Early FinishVoting k d = Unit {0}
+Early FinishAwaiting k d = Unit {0}
+Early Decided k d = Unit {0}
+
+-- an entry beside the station's part that it shows
+pub record Entry-shows (n : ℕ) (t : Station) (p : play.Station) : Type 0 where
+  pub stage : stands-at t ≡ p .stage
+  pub claim : t .claim ≡ p .own-claim
+  pub holds : (i : ℕ) → member i (t .held) ≡ p .holds i
+  pub lost : t .lost ≡ p .lost
+  pub cursor : t .cursor < n
+  pub early : Early (t .stage) (t .round) (t .word)
+
+pub record Linked (o : Opening) (r : Settlement) (st : play.State) : Type 0 where
+  pub count : r .count ≡ o .count
+  pub rule : r .rule ≡ rule-number (o .rule)
+  pub stations : length (r .stations) ≡ stationEntries
+  pub ballots : length (r .ballots) ≡ ballotEntries
+  pub entries : (s : ℕ) → s < o .count → Entry-shows (o .count) (entry r s) (st .station s)
+  pub answer : (b : ℕ) → answer-in (ballot r b) ≡ st .answer-of b
+  pub cast : (b : ℕ) (a : Bool) → was-cast (ballot r b) a ≡ any-below (o .count) (λ s. is-bit a (st .station s .cast b))
+
+pub linked-shows : (o : Opening) (r : Settlement) (st : play.State) → Linked o r st → Shows-play o r st
+linked-shows o r st l = record {
+  count = l .count;
+  rule = l .rule;
+  stage = λ s b. l .entries s b .stage;
+  claim = λ s b. l .entries s b .claim;
+  holds = λ s t b. l .entries s b .holds t;
+  lost = λ s b. l .entries s b .lost;
+  answer = l .answer;
+  cast = l .cast;
+}
+
+-- ---- one entry replaced
+
+-- the entry of q once that of s is t
+pub entry-ind : (C : Station → Type 0) (r : Settlement) (s : ℕ) (t : Station) (q : ℕ) → s < length (r .stations) → (q ≡ s → C t) → ((q ≡ s → ⊥) → C (entry r q)) → C (entry (with-station s t r) q)
+entry-ind C r s t q l new old =
+    by-bool (eqb q s)
+    (λ e.
+    let i = eqb-true q s e in
+    subst (λ (x : ℕ). C (entry (with-station s t r) x)) (sym i) (subst C (sym (getD-set-same (r .stations) s t _ l)) (new i)))
+    (λ e. let ne = eqb-false q s e in subst C (sym (getD-set-other (r .stations) s q t _ ne)) (old ne))
+
+pub ballot-ind : (C : Ballot → Type 0) (r : Settlement) (b : ℕ) (t : Ballot) (c : ℕ) → b < length (r .ballots) → (c ≡ b → C t) → ((c ≡ b → ⊥) → C (ballot r c)) → C (ballot (with-ballot b t r) c)
+ballot-ind C r b t c l new old =
+    by-bool (eqb c b)
+    (λ e.
+    let i = eqb-true c b e in
+    subst (λ (x : ℕ). C (ballot (with-ballot b t r) x)) (sym i) (subst C (sym (getD-set-same (r .ballots) b t _ l)) (new i)))
+    (λ e. let ne = eqb-false c b e in subst C (sym (getD-set-other (r .ballots) b c t _ ne)) (old ne))
+
+-- ---- a bit cast
+
+beq-same : (v : Bool) → Bool·beq v v ≡ true
+beq-same true = refl
+beq-same false = refl
+
+beq-true : (v y : Bool) → Bool·beq v y ≡ true → v ≡ y
+beq-true true true e = refl
+beq-true true false e = no-clash true refl (sym e)
+beq-true false true e = no-clash true refl (sym e)
+beq-true false false e = refl
+
+cast-same : (v : Bool) (t : Ballot) → was-cast (casting v t) v ≡ true
+cast-same true t = refl
+cast-same false t = refl
+
+cast-other : (v y : Bool) (t : Ballot) → Bool·beq v y ≡ false → was-cast (casting v t) y ≡ was-cast t y
+cast-other true true t e = no-clash true refl e
+cast-other true false t e = refl
+cast-other false true t e = refl
+cast-other false false t e = no-clash true refl e
+
+module _ (o : Opening) (a : Accepts o) (r : Settlement) (st : play.State) (l : Linked o r st) where
+  station-inside : (s : ℕ) → s < o .count → s < length (r .stations)
+  station-inside s b = subst (λ (x : ℕ). s < x) (sym (l .stations)) (lt-of-lt-of-le b (a .not-too-many))
+
+  ballot-inside : (b : ℕ) → b < ballotEntries → b < length (r .ballots)
+  ballot-inside b i = subst (λ (x : ℕ). b < x) (sym (l .ballots)) i
+
+  -- an entry replaced, with the casts as they were
+  pub own-linked : (s : ℕ) → s < o .count → (t : Station) (p : play.Station) → Entry-shows (o .count) t p → p .cast ≡ st .station s .cast → Linked o (with-station s t r) (play.set-station st s p)
+  own-linked s b t p x same = record {
+    count = l .count;
+    rule = l .rule;
+    stations = length-set (r .stations) s t ∙ l .stations;
+    ballots = l .ballots;
+    entries = λ q c.
+        update-ind (Entry-shows (o .count) (entry (with-station s t r) q)) (st .station) s p q
+        (λ i. entry-ind (λ (y : Station). Entry-shows (o .count) y p) r s t q (station-inside s b) (λ j. x) (λ ne. absurd (ne i)))
+        (λ ne. entry-ind (λ (y : Station). Entry-shows (o .count) y (st .station q)) r s t q (station-inside s b) (λ i. absurd (ne i)) (λ j. l .entries q c));
+    answer = l .answer;
+    cast = λ c y.
+        l .cast c y
+        ∙ ap (any-below (o .count))
+        (fun-ext (λ q.
+        update-ind (λ (z : play.Station). is-bit y (st .station q .cast c) ≡ is-bit y (z .cast c)) (st .station) s p q
+        (λ i. ap (λ (f : ℕ → Option Bool). is-bit y (f c)) (ap (λ (j : ℕ). st .station j .cast) i ∙ sym same))
+        (λ ne. refl)));
+  }
+
+  -- an entry replaced and a bit cast, in a ballot that the station has not voted in
+  pub vote-linked : (s : ℕ) → s < o .count → (t : Station) (p : play.Station) → Entry-shows (o .count) t p → (b : ℕ) → b < ballotEntries → (v : Bool)
+      → st .station s .cast b ≡ none → p .cast ≡ play.update (st .station s .cast) b (some v)
+      → Linked o (with-ballot b (casting v (ballot r b)) (with-station s t r)) (play.set-station st s p)
+  vote-linked s below t p x b inside v unvoted now = record {
+    count = l .count;
+    rule = l .rule;
+    stations = length-set (r .stations) s t ∙ l .stations;
+    ballots = length-set (r .ballots) b _ ∙ l .ballots;
+    entries = λ q c.
+        update-ind (Entry-shows (o .count) (entry (with-station s t r) q)) (st .station) s p q
+        (λ i. entry-ind (λ (y : Station). Entry-shows (o .count) y p) r s t q (station-inside s below) (λ j. x) (λ ne. absurd (ne i)))
+        (λ ne. entry-ind (λ (y : Station). Entry-shows (o .count) y (st .station q)) r s t q (station-inside s below) (λ i. absurd (ne i)) (λ j. l .entries q c));
+    answer = λ c.
+        ballot-ind (λ (y : Ballot). answer-in y ≡ st .answer-of c) r b (casting v (ballot r b)) c (ballot-inside b inside)
+        (λ i. l .answer b ∙ ap (st .answer-of) (sym i))
+        (λ ne. l .answer c);
+    cast = λ c y.
+        ballot-ind (λ (z : Ballot). was-cast z y ≡ any-below (o .count) (λ q. is-bit y (play.update (st .station) s p q .cast c))) r b (casting v (ballot r b)) c
+        (ballot-inside b inside)
+        (λ i. subst (λ (m : ℕ). was-cast (casting v (ballot r b)) y ≡ any-below (o .count) (λ q. is-bit y (play.update (st .station) s p q .cast m))) (sym i) (here y))
+        (λ ne. l .cast c y ∙ ap (any-below (o .count)) (fun-ext (λ q. there c ne y q)));
+  }
+    where
+      -- in another ballot nothing is cast
+      there : (c : ℕ) → (c ≡ b → ⊥) → (y : Bool) (q : ℕ) → is-bit y (st .station q .cast c) ≡ is-bit y (play.update (st .station) s p q .cast c)
+      there c ne y q =
+          update-ind (λ (z : play.Station). is-bit y (st .station q .cast c) ≡ is-bit y (z .cast c)) (st .station) s p q
+          (λ i.
+          ap (λ (j : ℕ). is-bit y (st .station j .cast c)) i
+          ∙ ap (is-bit y) (sym (ap (λ (f : ℕ → Option Bool). f c) now ∙ update-other (st .station s .cast) b (some v) c ne)))
+          (λ ne. refl)
+
+      voted : is-bit v (play.update (st .station) s p s .cast b) ≡ true
+      voted =
+          ap (is-bit v)
+          (ap (λ (z : play.Station). z .cast b) (update-same (st .station) s p) ∙ ap (λ (f : ℕ → Option Bool). f b) now ∙ update-same (st .station s .cast) b (some v))
+          ∙ beq-same v
+
+      -- the other bit is cast by whoever had cast it
+      other : (y : Bool) → Bool·beq v y ≡ false → (q : ℕ) → is-bit y (st .station q .cast b) ≡ is-bit y (play.update (st .station) s p q .cast b)
+      other y ne q =
+          update-ind (λ (z : play.Station). is-bit y (st .station q .cast b) ≡ is-bit y (z .cast b)) (st .station) s p q
+          (λ i.
+          ap (λ (j : ℕ). is-bit y (st .station j .cast b)) i
+          ∙ ap (is-bit y) unvoted
+          ∙ sym (ap (is-bit y) (ap (λ (f : ℕ → Option Bool). f b) now ∙ update-same (st .station s .cast) b (some v)) ∙ ne))
+          (λ ne. refl)
+
+      here : (y : Bool) → was-cast (casting v (ballot r b)) y ≡ any-below (o .count) (λ q. is-bit y (play.update (st .station) s p q .cast b))
+      here y =
+          by-bool (Bool·beq v y)
+          (λ e.
+          subst (λ (z : Bool). was-cast (casting v (ballot r b)) z ≡ any-below (o .count) (λ q. is-bit z (play.update (st .station) s p q .cast b))) (beq-true v y e)
+          (cast-same v (ballot r b) ∙ sym (any-true (o .count) (λ q. is-bit v (play.update (st .station) s p q .cast b)) s below voted)))
+          (λ e. cast-other v y (ballot r b) e ∙ l .cast b y ∙ ap (any-below (o .count)) (fun-ext (λ q. other y e q)))
+
+  -- a ballot answered
+  pub answer-linked : (b : ℕ) → b < ballotEntries → (v : Bool) → Linked o (with-ballot b (answering v (ballot r b)) r) (record { station = st .station; answer-of = play.update (st .answer-of) b (some v) })
+  answer-linked b inside v = record {
+    count = l .count;
+    rule = l .rule;
+    stations = l .stations;
+    ballots = length-set (r .ballots) b _ ∙ l .ballots;
+    entries = l .entries;
+    answer = λ c.
+        ballot-ind (λ (y : Ballot). answer-in y ≡ play.update (st .answer-of) b (some v) c) r b (answering v (ballot r b)) c (ballot-inside b inside)
+        (λ i. sym (ap (play.update (st .answer-of) b (some v)) i ∙ update-same (st .answer-of) b (some v)))
+        (λ ne. l .answer c ∙ sym (update-other (st .answer-of) b (some v) c ne));
+    cast = λ c y.
+        ballot-ind (λ (z : Ballot). was-cast z y ≡ any-below (o .count) (λ q. is-bit y (st .station q .cast c))) r b (answering v (ballot r b)) c (ballot-inside b inside)
+        (λ i. l .cast b y ∙ ap (λ (m : ℕ). any-below (o .count) (λ q. is-bit y (st .station q .cast m))) (sym i))
+        (λ ne. l .cast c y);
+  }

@@ -1,0 +1,155 @@
+-- Each event has one number on a record and in the play, where the record is tied to a reached state: the tests are the same, one by one.
+-- Assumes nothing.
+use Prim.Native.Nat.{ℕ, zero, suc, _+_, _*_, _<_, _≤_}
+use mathlib.Core.Path.{_≡_, refl, sym, subst, _∙_, ap, ap₂}
+use mathlib.Core.Bool.{Bool, true, false, cond, not, _&&_, _||_}
+use mathlib.Core.Option.{Option, none, some}
+use native.Mathlib.Omega.{arith}
+use native.Mathlib.Numerals.{add-one}
+use lib.Dec.{eqb, ltb, eqb·suc-suc}
+use borrow.Author.Tests.{ne-eqb}
+use Rattle.bits.specs.Log.{ceilLog2}
+use Rattle.bits.specs.Words.{member}
+use Rattle.consensus.specs.Events.{Event, claim, deliver, step, lose, answer, Rule, byStation, byClaim, Opening, Accepts, ballotsOf}
+use Rattle.consensus.specs.Events as events
+use Rattle.consensus.specs.State as play
+use Rattle.consensus.specs.Rules as rules
+use Rattle.consensus.specs.Rules.{refuse, finish-ballot, last-refusal, as-bit, bit-ballot-by}
+use Rattle.consensus.proofs.Basics.{by-bool, or-false, not-false→true}
+use Rattle.consensus.proofs.Invariant.{Stage-ok, Inv}
+use Rattle.consensus.proofs.Ballots.{Short}
+use Rattle.consensus.proofs.Reached.{station-below}
+use Rattle.settlement.specs.declared.record.Stage.{Stage}
+use Rattle.settlement.specs.declared.record.Stage.the-variants.{Idle, Waiting, Voting, Awaiting, Seeking, FinishVoting, FinishAwaiting, Decided}
+use Rattle.settlement.specs.declared.record.Station.{Station}
+use Rattle.settlement.specs.declared.record.Ballot.{Ballot}
+use Rattle.settlement.specs.declared.record.Settlement.{Settlement}
+use Rattle.settlement.specs.Record.{ballotEntries, entry, ballot, ballots, bit-ballot, no-station, not-idle, is-decided, was-cast}
+use Rattle.settlement.specs.Fault.{fault}
+use Rattle.settlement.specs.Tests.{first-met, must-wait, takes-last-no, last-ballot, number, event-tests}
+use Rattle.settlement.specs.Link.{rule-number, stage-of, stands-at, answer-in}
+use Rattle.settlement.proofs.Link.Linked.{Linked, Entry-shows}
+use Rattle.settlement.proofs.Link.Faultless.{faultless}
+
+-- the same test, and then the same rest
+refuse-both : (t t' : Bool) (m x y : ℕ) → t ≡ t' → (t' ≡ false → x ≡ y) → refuse t m x ≡ refuse t' m y
+refuse-both t t' m x y e f = ap (λ (b : Bool). refuse b m x) e ∙ by-bool t' (λ p. ap₂ (λ (b c : Bool). refuse b m x) p p ∙ sym (ap (λ (b : Bool). refuse b m y) p)) (λ p. ap (λ (b : Bool). refuse b m x) p ∙ f p ∙ sym (ap (λ (b : Bool). refuse b m y) p))
+
+pub not-idle-same : (g : Stage) (j k d v : ℕ) → not-idle g ≡ play.not-idle (stage-of g j k d v)
+not-idle-same Idle j k d v = refl
+not-idle-same Waiting j k d v = refl
+not-idle-same Voting j k d v = refl
+not-idle-same Awaiting j k d v = refl
+not-idle-same Seeking j k d v = refl
+not-idle-same FinishVoting j k d v = refl
+not-idle-same FinishAwaiting j k d v = refl
+not-idle-same Decided j k d v = refl
+
+pub answered-same : (t : Ballot) (x : Option Bool) → answer-in t ≡ x → t .answered ≡ play.answered x
+answered-same t x e = by-bool (t .answered) (λ p. p ∙ ap play.answered (sym (ap (λ (b : Bool). cond b (some (t .answer)) none) p) ∙ e)) (λ p. p ∙ ap play.answered (sym (ap (λ (b : Bool). cond b (some (t .answer)) none) p) ∙ e))
+
+-- an answered ballot's bit
+pub answer-same : (t : Ballot) (x : Option Bool) → answer-in t ≡ x → t .answered ≡ true → x ≡ some (t .answer)
+answer-same t x e p = sym e ∙ ap (λ (b : Bool). cond b (some (t .answer)) none) p
+
+pub bit-ballot-same : (r : Rule) (k : ℕ) → cond (eqb (rule-number r) 1) k (2 * k) ≡ bit-ballot-by r k
+bit-ballot-same byStation k = refl
+bit-ballot-same byClaim k = refl
+
+ballots-same : (r : Rule) (n : ℕ) → 0 < n → cond (eqb n 0) 0 (cond (eqb (rule-number r) 1) (ceilLog2 n) ballotEntries) ≡ ballotsOf r (ceilLog2 n)
+ballots-same byStation n l = ap (λ (b : Bool). cond b 0 (ceilLog2 n)) (ne-eqb n 0 (λ e. omega arith))
+ballots-same byClaim n l = ap (λ (b : Bool). cond b 0 ballotEntries) (ne-eqb n 0 (λ e. omega arith))
+
+module _ (o : Opening) (a : Accepts o) (r : Settlement) (st : play.State) (l : Linked o r st) (inv : Inv o st) where
+  pub no-station-same : (s : ℕ) → no-station r s ≡ rules.no-station o s
+  no-station-same s = ap (λ (n : ℕ). not (ltb s n)) (l .count)
+
+  pub idle-same : (s : ℕ) → s < o .count → not-idle (entry r s .stage) ≡ play.claimed st s
+  idle-same s b =
+      let t = entry r s in not-idle-same (t .stage) (t .cursor) (t .round) (t .word) (t .decision) ∙ ap play.not-idle (l .entries s b .stage)
+
+  pub ballot-of-round : (k : ℕ) → bit-ballot r k ≡ rules.bit-ballot o k
+  ballot-of-round k = ap (λ (x : ℕ). cond (eqb x 1) k (2 * k)) (l .rule) ∙ bit-ballot-same (o .rule) k
+
+  pub ballots-count : ballots r ≡ events.ballots o
+  ballots-count =
+      ap₂ (λ (n x : ℕ). cond (eqb n 0) 0 (cond (eqb x 1) (ceilLog2 n) ballotEntries)) (l .count) (l .rule)
+      ∙ ballots-same (o .rule) (o .count) (a .some-station)
+
+  pub ballot-answered : (b : ℕ) → ballot r b .answered ≡ play.answered (st .answer-of b)
+  ballot-answered b = answered-same (ballot r b) (st .answer-of b) (l .answer b)
+
+  round-answered : (k : ℕ) → not (ballot r (bit-ballot r k) .answered) ≡ not (play.answered (st .answer-of (rules.bit-ballot o k)))
+  round-answered k =
+      ap (λ (b : ℕ). not (ballot r b .answered)) (ballot-of-round k) ∙ ap (λ (x : Bool). not x) (ballot-answered (rules.bit-ballot o k))
+
+  finish-answered : (k : ℕ) → not (ballot r (finish-ballot k) .answered) ≡ not (play.answered (st .answer-of (finish-ballot k)))
+  finish-answered k = ap (λ (x : Bool). not x) (ballot-answered (finish-ballot k))
+
+  -- the last test of STEP, where the ballot is answered
+  last-same : o .rule ≡ byClaim → (k : ℕ) → not (play.answered (st .answer-of (finish-ballot k))) ≡ false
+      → refuse (not (ballot r (finish-ballot k) .answer) && eqb (finish-ballot k) last-ballot) 42 0 ≡ last-refusal o (st .answer-of (finish-ballot k)) (finish-ballot k)
+  last-same q k e = go (ballot r (finish-ballot k) .answer) (answer-same (ballot r (finish-ballot k)) (st .answer-of (finish-ballot k)) (l .answer (finish-ballot k)) was)
+    where
+      was : ballot r (finish-ballot k) .answered ≡ true
+      was = ballot-answered (finish-ballot k) ∙ not-false→true (play.answered (st .answer-of (finish-ballot k))) e
+
+      last : eqb (finish-ballot k) last-ballot ≡ eqb (suc (finish-ballot k)) (events.ballots o)
+      last = sym (eqb·suc-suc (finish-ballot k) last-ballot) ∙ ap (eqb (suc (finish-ballot k))) (sym (ap (λ (x : Rule). ballotsOf x (events.rounds o)) q))
+
+      go : (v : Bool) → st .answer-of (finish-ballot k) ≡ some v → refuse (not v && eqb (finish-ballot k) last-ballot) 42 0 ≡ last-refusal o (st .answer-of (finish-ballot k)) (finish-ballot k)
+      go true x = ap (λ (y : Option Bool). last-refusal o y (finish-ballot k)) (sym x)
+      go false x = ap (λ (b : Bool). refuse b 42 0) last ∙ ap (λ (y : Option Bool). last-refusal o y (finish-ballot k)) (sym x)
+
+  abbrev Rest : ℕ → Station → Stage → ℕ
+  Rest s t g = refuse (not (not-idle g)) 6 (refuse (is-decided g) 7 (refuse (must-wait r s t g) 8 (refuse (takes-last-no r t g) 42 0)))
+
+  -- what STEP is refused for at each stage
+  stage-same : (s : ℕ) (t : Station) → member s (t .held) ≡ st .station s .holds s → (g : Stage)
+      → Stage-ok o st (stage-of g (t .cursor) (t .round) (t .word) (t .decision)) (st .station s .holds) (st .station s .cast)
+      → Rest s t g ≡ rules.stage-number o st s (stage-of g (t .cursor) (t .round) (t .word) (t .decision))
+  unfolding must-wait takes-last-no rules.stage-number
+  stage-same s t own Idle x = refl
+  stage-same s t own Waiting x = ap (λ (b : Bool). refuse (not b) 8 0) own
+  stage-same s t own Voting x = refl
+  stage-same s t own Awaiting x = ap (λ (b : Bool). refuse b 8 0) (round-answered (t .round))
+  stage-same s t own Seeking x = refl
+  stage-same s t own FinishVoting x = refl
+  stage-same s t own FinishAwaiting x = refuse-both _ _ 8 _ _ (finish-answered (t .round)) (λ e. last-same (x .0) (t .round) e)
+  stage-same s t own Decided x = refl
+
+  event-same : (e : Event) → first-met (event-tests r e) ≡ rules.number o st e
+  unfolding first-met rules.number
+  event-same (claim s v) =
+      refuse-both _ _ 1 _ _ (no-station-same s)
+      (λ e.
+      let b = station-below o s e in
+      refuse-both _ _ 2 _ _ (l .entries s b .lost) (λ f. refuse-both _ _ 3 0 0 (idle-same s b) (λ g. refl)))
+  event-same (deliver t s) =
+      refuse-both _ _ 1 _ _ (ap₂ (λ (x y : Bool). x || y) (no-station-same t) (no-station-same s))
+      (λ e.
+      let both = or-false (rules.no-station o t) (rules.no-station o s) e in
+      let c = station-below o t (both .0) in
+      let b = station-below o s (both .1) in
+      refuse-both _ _ 2 _ _ (l .entries s b .lost)
+      (λ f. refuse-both _ _ 4 _ _ (ap not (idle-same t c)) (λ g. refuse-both _ _ 5 0 0 (l .entries s b .holds t) (λ h. refl))))
+  event-same (step s) =
+      refuse-both _ _ 1 _ _ (no-station-same s)
+      (λ e.
+      let b = station-below o s e in
+      let x = l .entries s b in
+      refuse-both _ _ 2 _ _ (x .lost)
+      (λ f.
+      stage-same s (entry r s) (x .holds s) (entry r s .stage)
+      (subst (λ (g : play.Stage). Stage-ok o st g (st .station s .holds) (st .station s .cast)) (sym (x .stage)) (inv .parts s .stage))
+      ∙ ap (rules.stage-number o st s) (x .stage)))
+  event-same (lose s) = refuse-both _ _ 1 _ _ (no-station-same s) (λ e. refuse-both _ _ 2 0 0 (l .entries s (station-below o s e) .lost) (λ f. refl))
+  event-same (answer b v) =
+      refuse-both _ _ 9 _ _ (ap (λ (n : ℕ). not (ltb b n)) ballots-count)
+      (λ e.
+      refuse-both (ltb 1 v) (ltb 1 v) 10 _ _ refl
+      (λ f. refuse-both _ _ 11 _ _ (ballot-answered b) (λ g. refuse-both _ _ 12 0 0 (ap not (l .cast b (as-bit v))) (λ h. refl))))
+
+  pub number-same : Short o st → (e : Event) → number r e ≡ rules.number o st e
+  unfolding number first-met
+  number-same short e = ap (λ (b : Bool). refuse b 42 (first-met (event-tests r e))) (faultless o a r st l inv short) ∙ event-same e
