@@ -12,7 +12,7 @@ use bits::logarithm::ceil_log2;
 use bits::word::WORD_BITS;
 
 // Voting, awaiting or seeking.
-pub fn in_round(stage: Stage) -> bool
+pub(crate) fn in_round(stage: Stage) -> bool
     ensures { λ x. ⌜ x ≡ in-round stage ⌝ }
 {
     match stage {
@@ -28,7 +28,7 @@ pub fn in_round(stage: Stage) -> bool
 }
 
 // Voting or awaiting on a finish ballot.
-pub fn on_finish(stage: Stage) -> bool
+pub(crate) fn on_finish(stage: Stage) -> bool
     ensures { λ x. ⌜ x ≡ on-finish stage ⌝ }
 {
     match stage {
@@ -44,14 +44,14 @@ pub fn on_finish(stage: Stage) -> bool
 }
 
 // In a round, on a finish ballot or decided.
-pub fn past_waiting(stage: Stage) -> bool
+pub(crate) fn past_waiting(stage: Stage) -> bool
     ensures { λ x. ⌜ x ≡ past-waiting stage ⌝ }
 {
     in_round(stage) | on_finish(stage) | is_decided(stage)
 }
 
 // One station's test, in a record of n stations.
-pub fn station_faulty(n: u8, rule: u8, t: Station) -> bool
+pub(crate) fn station_faulty(n: u8, rule: u8, t: Station) -> bool
     ensures { λ x. ⌜ x ≡ station-fault n rule t ⌝ }
 {
     let stage = t.stage;
@@ -62,7 +62,7 @@ pub fn station_faulty(n: u8, rule: u8, t: Station) -> bool
 }
 
 // Whether a station below n has a fault.
-pub fn some_station_faulty(r: Settlement) -> bool
+pub(crate) fn some_station_faulty(r: Settlement) -> bool
     ensures { λ x. ⌜ x ≡ any-below (r .count) (fault-at r) ⌝ }
 {
     let mut found = false;
@@ -74,7 +74,7 @@ pub fn some_station_faulty(r: Settlement) -> bool
     found
 }
 
-pub fn faulty(r: Settlement) -> bool
+pub(crate) fn faulty(r: Settlement) -> bool
     ensures { λ x. ⌜ x ≡ fault r ⌝ }
 {
     (STATION_ENTRIES < r.count) | !((r.rule == 1) | (r.rule == 2)) | some_station_faulty(r)
