@@ -13,11 +13,12 @@ use Rattle.consensus.specs.Events.{Event, claim, deliver, step, lose, an
 use Rattle.consensus.specs.State.{Stage, idle, waiting, voting, awaiting, seeking, finish-voting, finish-awaiting, decided, State, not-idle, claimed, held, answered}
 use Rattle.consensus.specs.Rules.{bit-ballot, finish-ballot, no-station, was-cast, as-bit, refuse, last-refusal, stage-number, number, after}
 use Rattle.consensus.specs.Words.{Claims-fit, Put-in, Lost, Decided, Supplied, waits-on}
+use Rattle.consensus.specs.Told.{awaited}
 use Rattle.consensus.proofs.Basics.{by-bool, no-clash}
 use Rattle.consensus.proofs.Invariant.{Part-ok, Inv}
 use Rattle.consensus.proofs.Reached.{reached}
 use Rattle.consensus.proofs.Accepted.{holds-shown, lost-shown, put-in-shown, answered-shown}
-use Rattle.consensus.proofs.Told.{stage-after, waiting-ballot, waits-shown, shown-decided}
+use Rattle.consensus.proofs.Told.{stage-after, waits-shown, shown-decided}
 use Rattle.consensus.proofs.Ballots.{finish-below}
 
 -- a test that is not met refuses nothing
@@ -43,7 +44,7 @@ module _ (o : Opening) (h : History) (fit : Claims-fit h) where
   last-passes r k (some false) e = passes _ 42 0 (not-last r k e)
 
   abbrev Waits : ℕ → Stage → Type 0
-  Waits p g = (b : ℕ) → waiting-ballot o g ≡ some b → answered (after o h .answer-of b) ≡ true
+  Waits p g = (b : ℕ) → awaited o g ≡ some b → answered (after o h .answer-of b) ≡ true
 
   unrefused : (p : ℕ) (g : Stage) → Part-ok o (after o h) p g (after o h .station p .holds) (after o h .station p .cast) → (g ≡ idle → ⊥)
       → ((v k : ℕ) → g ≡ decided v k → ⊥)
