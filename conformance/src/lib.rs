@@ -9,5 +9,6 @@ pub mod judge;
 pub mod log;
 pub mod model;
 pub mod plain;
+pub mod stack;
 pub mod subject;
 pub mod text;
