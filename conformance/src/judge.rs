@@ -233,20 +233,16 @@ impl<'a> Judge<'a> {
     }
 }
 
-/// A field as PUT's exported form takes it.
+/// A field as PUT's exported form takes it. What its tag does not use is odd on purpose.
 fn parts(field: &Field) -> Parts<'_> {
-    let (x, y, v) = match *field {
-        Field::Opening { n, rule } => (n, rule, 0),
-        Field::Event(Event::Claim { s, v }) => (s, 0, v),
-        Field::Event(Event::Deliver { t, s }) => (t, s, 0),
-        Field::Event(Event::Step { s } | Event::Lose { s }) => (s, 0, 0),
-        Field::Event(Event::Answer { b, a }) => (b, a, 0),
-        Field::Note(_) => (0, 0, 0),
-    };
-    let note = match field {
-        Field::Note(bytes) => bytes,
-        _ => &[][..],
-    };
+    const UNUSED: Parts = Parts { tag: 0, x: 0xee, y: 0xdd, v: 0xcccc_bbbb, note: &[0xaa; 70] };
     let tag = field.tag();
-    Parts { tag, x, y, v, note }
+    match *field {
+        Field::Opening { n, rule } => Parts { tag, x: n, y: rule, ..UNUSED },
+        Field::Event(Event::Claim { s, v }) => Parts { tag, x: s, v, ..UNUSED },
+        Field::Event(Event::Deliver { t, s }) => Parts { tag, x: t, y: s, ..UNUSED },
+        Field::Event(Event::Step { s } | Event::Lose { s }) => Parts { tag, x: s, ..UNUSED },
+        Field::Event(Event::Answer { b, a }) => Parts { tag, x: b, y: a, ..UNUSED },
+        Field::Note(ref note) => Parts { tag, note, ..UNUSED },
+    }
 }

@@ -56,7 +56,7 @@ fn print_counts(judge: &Judge) {
     );
     let seen = &judge.seen;
     println!(
-        "Demand 3 held on {} lists: {} events accepted, {} refused; {} stations decided, in {} lists two or more; \
+        "Demand 3 was checked on {} lists: {} events accepted, {} refused; {} stations decided, in {} lists two or more; \
          {} supplied steps, {} stations at the bound",
         seen.lists, seen.accepted, seen.refused, seen.deciders, seen.shared, seen.supplied, seen.at_bound
     );

@@ -12,8 +12,8 @@ use std::time::{Duration, Instant};
 
 const SEED: u64 = 20_260_412;
 /// Turns for each log; the fastest counts, since other work on the machine only slows a turn.
-const TURNS: usize = 15;
-const TURN: Duration = Duration::from_millis(20);
+const TURNS: usize = 60;
+const TURN: Duration = Duration::from_millis(5);
 
 fn main() {
     let Some(subject) = subject() else {
