@@ -41,29 +41,29 @@ impl Rng {
     }
 }
 
-/// How an evening goes. Numbers are percents.
-pub struct Habits {
+/// What a list is made of. Numbers are percents.
+pub struct Mix {
     /// The claims to choose from; several stations may choose the same.
     pub claims: Vec<u32>,
     /// Events with any arguments in between.
-    pub noise: usize,
+    pub any: usize,
     /// Stations lost.
     pub loss: usize,
     /// Missing claims delivered before a step.
-    pub eager: usize,
+    pub deliver: usize,
     /// Idle stations that claim when their turn comes.
-    pub keen: usize,
+    pub claim: usize,
 }
 
-pub fn habits(rng: &mut Rng, n: u8) -> Habits {
+pub fn mix(rng: &mut Rng, n: u8) -> Mix {
     let width = rng.pick(&[1, 2, 3, 4, 6, 8, 12, 16, 31, 32]);
     let count = 1 + rng.below(usize::from(n));
-    Habits {
+    Mix {
         claims: (0..count).map(|_| claim(rng, width)).collect(),
-        noise: rng.pick(&[0, 2, 10, 40]),
+        any: rng.pick(&[0, 2, 10, 40]),
         loss: rng.pick(&[0, 0, 0, 1, 3]),
-        eager: rng.pick(&[5, 30, 80, 100]),
-        keen: rng.pick(&[5, 50, 100]),
+        deliver: rng.pick(&[5, 30, 80, 100]),
+        claim: rng.pick(&[5, 50, 100]),
     }
 }
 
@@ -88,11 +88,11 @@ pub fn stations(rng: &mut Rng) -> u8 {
 }
 
 /// A list of at most so many events, refused ones included, that ends some time after all is decided.
-pub fn list(rng: &mut Rng, play: Play, habits: &Habits, most: usize) -> Vec<Event> {
+pub fn list(rng: &mut Rng, play: Play, mix: &Mix, most: usize) -> Vec<Event> {
     let mut play = play;
     let mut events = Vec::new();
     while events.len() < most && !(settled(&play) && rng.chance(10)) {
-        let event = next_event(rng, &play, habits);
+        let event = next_event(rng, &play, mix);
         play.event(event);
         events.push(event);
     }
@@ -106,31 +106,31 @@ fn settled(play: &Play) -> bool {
     claimed && live.all(|&s| play.decision(s).is_some())
 }
 
-fn next_event(rng: &mut Rng, play: &Play, habits: &Habits) -> Event {
-    if rng.chance(habits.noise) {
-        return any_event(rng, play, habits);
+fn next_event(rng: &mut Rng, play: &Play, mix: &Mix) -> Event {
+    if rng.chance(mix.any) {
+        return any_event(rng, play, mix);
     }
     let unfinished = |s: &u8| !play.lost.contains(s) && play.stage(*s) != Stage::Decided;
     let turns: Vec<u8> = (0..8).map(|_| rng.below(usize::from(play.n)) as u8).collect();
     match turns.into_iter().find(unfinished) {
-        Some(s) => useful_event(rng, play, habits, s),
-        None => any_event(rng, play, habits),
+        Some(s) => useful_event(rng, play, mix, s),
+        None => any_event(rng, play, mix),
     }
 }
 
 /// An event that may bring station s on.
-fn useful_event(rng: &mut Rng, play: &Play, habits: &Habits, s: u8) -> Event {
-    if rng.chance(habits.loss) {
+fn useful_event(rng: &mut Rng, play: &Play, mix: &Mix, s: u8) -> Event {
+    if rng.chance(mix.loss) {
         return Event::Lose { s };
     }
     let holds = |t: u8| play.held.contains(&(t, s));
     let missing: Vec<u8> = play.put_in.keys().copied().filter(|&t| !holds(t)).collect();
     match play.stage(s) {
-        Stage::Idle if rng.chance(habits.keen) => Event::Claim { s, v: rng.pick(&habits.claims) },
+        Stage::Idle if rng.chance(mix.claim) => Event::Claim { s, v: rng.pick(&mix.claims) },
         Stage::Waiting if !holds(s) => Event::Deliver { t: s, s },
         Stage::Awaiting(b) if !play.answers.contains_key(&b) => some_answer(rng, play, b),
-        _ if !missing.is_empty() && rng.chance(habits.eager) => Event::Deliver { t: rng.pick(&missing), s },
-        Stage::Idle => any_event(rng, play, habits),
+        _ if !missing.is_empty() && rng.chance(mix.deliver) => Event::Deliver { t: rng.pick(&missing), s },
+        Stage::Idle => any_event(rng, play, mix),
         _ => Event::Step { s },
     }
 }
@@ -150,10 +150,10 @@ fn around(rng: &mut Rng, end: u8) -> u8 {
 }
 
 /// An event with any arguments.
-pub fn any_event(rng: &mut Rng, play: &Play, habits: &Habits) -> Event {
+pub fn any_event(rng: &mut Rng, play: &Play, mix: &Mix) -> Event {
     let (s, t) = (around(rng, play.n), around(rng, play.n));
     match rng.below(10) {
-        0 | 1 => Event::Claim { s, v: rng.pick(&habits.claims) },
+        0 | 1 => Event::Claim { s, v: rng.pick(&mix.claims) },
         2 | 3 => Event::Deliver { t, s },
         4..=6 => Event::Step { s },
         7 if rng.chance(30) => Event::Lose { s },
@@ -171,7 +171,7 @@ fn near_ballot(rng: &mut Rng, play: &Play) -> u8 {
     }
 }
 
-/// A long evening of n stations, two or more: odd numbers are answered, and the claims of the odd stations
+/// A long list for n stations, two or more: ballot 0 is answered 1, and the claims of the odd stations
 /// come late. The even stations seek until the log has so many bytes; then all goes on to its end.
 pub fn long_list(rng: &mut Rng, n: u8, rule: u8, bytes: usize) -> Vec<Event> {
     let mut play = Play::open(n, rule).expect("a valid opening");
@@ -184,8 +184,8 @@ pub fn long_list(rng: &mut Rng, n: u8, rule: u8, bytes: usize) -> Vec<Event> {
         assert_eq!(play.event(event), 0);
         events.push(event);
     }
-    let calm = Habits { claims: vec![0], noise: 0, loss: 0, eager: 90, keen: 0 };
-    events.extend(list(rng, play, &calm, 20_000));
+    let to_the_end = Mix { claims: vec![0], any: 0, loss: 0, deliver: 90, claim: 0 };
+    events.extend(list(rng, play, &to_the_end, 20_000));
     events
 }
 

@@ -199,7 +199,7 @@ impl<'a> Judge<'a> {
             let status = play.event(event);
             let taken = if status == 0 { log.len() } else { start };
             played += usize::from(status == 0);
-            if start < 600 || i % 64 == 0 {
+            if start < 600 || i % 256 == 0 {
                 let counts = Counts { events: played, taken, status };
                 self.settlement(&log, Some(&play), counts)?;
             }

@@ -167,8 +167,8 @@ fn opening(rng: &mut Rng) -> (u8, u8) {
 /// A random list with refused events.
 fn random_list(rng: &mut Rng, n: u8, rule: u8, most: usize) -> Vec<Event> {
     let play = Play::open(n, rule).expect("a valid opening");
-    let habits = generate::habits(rng, n);
-    generate::list(rng, play, &habits, most)
+    let mix = generate::mix(rng, n);
+    generate::list(rng, play, &mix, most)
 }
 
 fn short_lists(judge: &mut Judge, rng: &mut Rng) -> Checked {

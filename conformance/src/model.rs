@@ -23,8 +23,8 @@ pub enum Rule {
 
 /// What one accepted STEP did.
 #[derive(Clone, Copy, Debug, PartialEq, Eq, PartialOrd, Ord)]
-pub enum Deed {
-    /// It held its own claim and set out.
+pub enum Action {
+    /// It held its own claim and left waiting.
     Begin,
     Vote {
         ballot: u8,
@@ -64,7 +64,7 @@ pub struct Play {
     pub lost: BTreeSet<u8>,
     /// Ballot, and its answer.
     pub answers: BTreeMap<u8, u8>,
-    deeds: BTreeMap<u8, Vec<Deed>>,
+    actions: BTreeMap<u8, Vec<Action>>,
 }
 
 /// 01: R, the least r with n stations in 2^r.
@@ -100,7 +100,7 @@ impl Play {
             held: BTreeSet::new(),
             lost: BTreeSet::new(),
             answers: BTreeMap::new(),
-            deeds: BTreeMap::new(),
+            actions: BTreeMap::new(),
         })
     }
 
@@ -120,26 +120,26 @@ impl Play {
     }
 
     /// What s did, oldest first.
-    pub fn deeds(&self, s: u8) -> &[Deed] {
-        self.deeds.get(&s).map_or(&[], Vec::as_slice)
+    pub fn actions(&self, s: u8) -> &[Action] {
+        self.actions.get(&s).map_or(&[], Vec::as_slice)
     }
 
     /// The ballots s voted in, with its bits.
     pub fn voted(&self, s: u8) -> Vec<(u8, u8)> {
-        let vote = |deed: &Deed| match *deed {
-            Deed::Vote { ballot, bit } => Some((ballot, bit)),
+        let vote = |action: &Action| match *action {
+            Action::Vote { ballot, bit } => Some((ballot, bit)),
             _ => None,
         };
-        self.deeds(s).iter().filter_map(vote).collect()
+        self.actions(s).iter().filter_map(vote).collect()
     }
 
     /// The answers s took, with their ballots.
     pub fn took(&self, s: u8) -> Vec<(u8, u8)> {
-        let take = |deed: &Deed| match *deed {
-            Deed::Take { ballot, bit } => Some((ballot, bit)),
+        let take = |action: &Action| match *action {
+            Action::Take { ballot, bit } => Some((ballot, bit)),
             _ => None,
         };
-        self.deeds(s).iter().filter_map(take).collect()
+        self.actions(s).iter().filter_map(take).collect()
     }
 
     /// The bits s has learnt, lowest first: d.
@@ -156,16 +156,16 @@ impl Play {
     }
 
     /// The station s looked at last, at first itself: j.
-    fn looks_at(&self, s: u8) -> u8 {
-        let tried = |deed: &Deed| match *deed {
-            Deed::Try { station, .. } => Some(station),
+    fn cursor(&self, s: u8) -> u8 {
+        let tried = |action: &Action| match *action {
+            Action::Try { station, .. } => Some(station),
             _ => None,
         };
-        self.deeds(s).iter().rev().find_map(tried).unwrap_or(s)
+        self.actions(s).iter().rev().find_map(tried).unwrap_or(s)
     }
 
     /// What the learnt bits are compared with: t itself, or its claim.
-    fn spelled(&self, t: u8) -> u32 {
+    fn number_of(&self, t: u8) -> u32 {
         match self.rule {
             Rule::ByStation => u32::from(t),
             Rule::ByClaim => self.put_in[&t],
@@ -174,17 +174,17 @@ impl Play {
 
     /// 01, "Seeking": the claim of t is held, and agrees with every bit learnt.
     fn fits(&self, s: u8, t: u8) -> bool {
-        let agrees = |(k, bit): (usize, u8)| digit(self.spelled(t), k) == bit;
+        let agrees = |(k, bit): (usize, u8)| digit(self.number_of(t), k) == bit;
         self.held.contains(&(t, s)) && self.learnt(s).into_iter().enumerate().all(agrees)
     }
 
     /// 01, "Voting": the bit that s casts in a ballot.
-    fn ballot_paper(&self, s: u8, ballot: u8) -> u8 {
-        let spelled = self.spelled(self.looks_at(s));
+    fn bit_to_cast(&self, s: u8, ballot: u8) -> u8 {
+        let number = self.number_of(self.cursor(s));
         match self.rule {
-            Rule::ByStation => digit(spelled, usize::from(ballot)),
-            Rule::ByClaim if ballot % 2 == 0 => digit(spelled, usize::from(ballot / 2)),
-            Rule::ByClaim => u8::from(self.word(s) == spelled),
+            Rule::ByStation => digit(number, usize::from(ballot)),
+            Rule::ByClaim if ballot % 2 == 0 => digit(number, usize::from(ballot / 2)),
+            Rule::ByClaim => u8::from(self.word(s) == number),
         }
     }
 
@@ -193,26 +193,26 @@ impl Play {
         if !self.put_in.contains_key(&s) {
             return Stage::Idle;
         }
-        let Some(&last) = self.deeds(s).last() else {
+        let Some(&last) = self.actions(s).last() else {
             return Stage::Waiting;
         };
         let next = self.voted(s).len() as u8;
         match (last, self.rule) {
-            (Deed::Vote { ballot, .. }, _) => Stage::Awaiting(ballot),
-            (Deed::Try { fits: false, .. }, _) => Stage::Seeking,
-            (Deed::Take { .. }, Rule::ByStation) => Stage::Seeking,
-            (Deed::Take { ballot, .. }, Rule::ByClaim) if ballot % 2 == 0 => Stage::Seeking,
-            (Deed::Take { bit: 1, .. }, Rule::ByClaim) => Stage::Decided,
-            (Deed::Take { .. }, Rule::ByClaim) => Stage::Voting(next),
+            (Action::Vote { ballot, .. }, _) => Stage::Awaiting(ballot),
+            (Action::Try { fits: false, .. }, _) => Stage::Seeking,
+            (Action::Take { .. }, Rule::ByStation) => Stage::Seeking,
+            (Action::Take { ballot, .. }, Rule::ByClaim) if ballot % 2 == 0 => Stage::Seeking,
+            (Action::Take { bit: 1, .. }, Rule::ByClaim) => Stage::Decided,
+            (Action::Take { .. }, Rule::ByClaim) => Stage::Voting(next),
             (_, Rule::ByStation) if next == self.ballots() => Stage::Decided,
-            (Deed::Begin | Deed::Try { .. }, _) => Stage::Voting(next),
+            (Action::Begin | Action::Try { .. }, _) => Stage::Voting(next),
         }
     }
 
     /// The claim that s decided.
     pub fn decision(&self, s: u8) -> Option<u32> {
         match (self.stage(s), self.rule) {
-            (Stage::Decided, Rule::ByStation) => Some(self.put_in[&self.looks_at(s)]),
+            (Stage::Decided, Rule::ByStation) => Some(self.put_in[&self.cursor(s)]),
             (Stage::Decided, Rule::ByClaim) => Some(self.word(s)),
             _ => None,
         }
@@ -220,8 +220,8 @@ impl Play {
 
     /// Some station, lost since or not, cast this bit.
     pub fn was_cast(&self, ballot: u8, bit: u8) -> bool {
-        let vote = Deed::Vote { ballot, bit };
-        self.deeds.values().any(|deeds| deeds.contains(&vote))
+        let vote = Action::Vote { ballot, bit };
+        self.actions.values().any(|actions| actions.contains(&vote))
     }
 
     /// Plays one event and answers its number. Refused, nothing has happened.
@@ -260,30 +260,30 @@ impl Play {
 
     fn step(&mut self, s: u8) -> Result<(), u8> {
         self.live(s)?;
-        let deed = self.next_deed(s)?;
-        self.deeds.entry(s).or_default().push(deed);
+        let action = self.next_action(s)?;
+        self.actions.entry(s).or_default().push(action);
         Ok(())
     }
 
     /// 01, "What one STEP does", with STEP's own refusals.
-    fn next_deed(&self, s: u8) -> Result<Deed, u8> {
+    fn next_action(&self, s: u8) -> Result<Action, u8> {
         match self.stage(s) {
             Stage::Idle => Err(6),
             Stage::Decided => Err(7),
-            Stage::Waiting if self.held.contains(&(s, s)) => Ok(Deed::Begin),
+            Stage::Waiting if self.held.contains(&(s, s)) => Ok(Action::Begin),
             Stage::Waiting => Err(8),
             Stage::Voting(ballot) => {
-                let bit = self.ballot_paper(s, ballot);
-                Ok(Deed::Vote { ballot, bit })
+                let bit = self.bit_to_cast(s, ballot);
+                Ok(Action::Vote { ballot, bit })
             }
             Stage::Awaiting(ballot) => {
                 let bit = *self.answers.get(&ballot).ok_or(8)?;
-                Ok(Deed::Take { ballot, bit })
+                Ok(Action::Take { ballot, bit })
             }
             Stage::Seeking => {
-                let station = (self.looks_at(s) + 1) % self.n;
+                let station = (self.cursor(s) + 1) % self.n;
                 let fits = self.fits(s, station);
-                Ok(Deed::Try { station, fits })
+                Ok(Action::Try { station, fits })
             }
         }
     }
