@@ -112,7 +112,7 @@ fn next_event(rng: &mut Rng, play: &Play, mix: &Mix) -> Event {
     }
     let unfinished = |s: &u8| !play.lost.contains(s) && play.stage(*s) != Stage::Decided;
     let turns: Vec<u8> = (0..8).map(|_| rng.below(usize::from(play.n)) as u8).collect();
-    match turns.into_iter().find(unfinished) {
+    match turns.into_iter().chain(0..play.n).find(unfinished) {
         Some(s) => useful_event(rng, play, mix, s),
         None => any_event(rng, play, mix),
     }
@@ -171,8 +171,16 @@ fn near_ballot(rng: &mut Rng, play: &Play) -> u8 {
     }
 }
 
+/// The accepted events of a list.
+pub fn accepted(n: u8, rule: u8, events: &[Event]) -> Vec<Event> {
+    let mut play = Play::open(n, rule).expect("a valid opening");
+    let mut events = events.to_vec();
+    events.retain(|&event| play.event(event) == 0);
+    events
+}
+
 /// A long list for n stations, two or more: ballot 0 is answered 1, and the claims of the odd stations
-/// come late. The even stations seek until the log has so many bytes; then all goes on to its end.
+/// come late. The even stations seek until the log has so many bytes; then all goes on to its end. All are accepted.
 pub fn long_list(rng: &mut Rng, n: u8, rule: u8, bytes: usize) -> Vec<Event> {
     let mut play = Play::open(n, rule).expect("a valid opening");
     let mut events = late_start(rng, n);
@@ -186,7 +194,7 @@ pub fn long_list(rng: &mut Rng, n: u8, rule: u8, bytes: usize) -> Vec<Event> {
     }
     let to_the_end = Mix { claims: vec![0], any: 0, loss: 0, deliver: 90, claim: 0 };
     events.extend(list(rng, play, &to_the_end, 20_000));
-    events
+    accepted(n, rule, &events)
 }
 
 fn written_bytes(events: &[Event]) -> usize {

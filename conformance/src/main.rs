@@ -2,7 +2,7 @@
 //! `--self` compares the plain implementation instead, and needs no archive.
 
 use conformance::edges;
-use conformance::generate::{self, Rng};
+use conformance::generate::{self, accepted, Rng};
 use conformance::judge::{Checked, Judge};
 use conformance::log::{self, Field};
 use conformance::model::{Event, Play};
@@ -187,14 +187,6 @@ fn settlements(judge: &mut Judge, rng: &mut Rng) -> Checked {
         judge.list(n, rule, &events)?;
     }
     Ok(())
-}
-
-/// The accepted events of a list.
-fn accepted(n: u8, rule: u8, events: &[Event]) -> Vec<Event> {
-    let mut play = Play::open(n, rule).expect("a valid opening");
-    let mut events = events.to_vec();
-    events.retain(|&event| play.event(event) == 0);
-    events
 }
 
 /// Logs around 65,536 bytes, and with more than 65,536 events.

@@ -77,6 +77,7 @@ fn one_log(subject: &(dyn Subject + Sync), name: &str, log: &[u8]) {
     let mut text = vec![0; 4096];
     let written = subject.report(log, &mut text);
     assert_eq!(settle(log).as_bytes(), &text[..written], "the library's text is not the model's");
+    assert!(settle(log).lines().skip(1).all(|line| line.contains("decided")), "a station is undecided");
     let events = run(log, MOST).events;
     let [library, plain] = in_turns([subject, &Plain], log, &mut text);
     let rate = |seconds: f64| events as f64 / seconds;
