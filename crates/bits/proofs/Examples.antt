@@ -1,10 +1,11 @@
--- The numbers that document 01 writes out are those of the definitions: antt computes each. Assumes nothing.
+-- The numbers that the documents write out are those of the definitions: antt computes each. Assumes nothing.
 use mathlib.Core.Bool.{true}
 use mathlib.Core.Path.{_≡_, refl}
-use Rattle.bits.specs.Digits.{digitsIn, binaryDigits, bitLength}
+use Rattle.bits.specs.Digits.{digitsIn, binaryDigits, bitLength, bit}
+use Rattle.bits.specs.Words.{withBit}
 use Rattle.bits.specs.Log.{leastFrom, ceilLog2}
 use Rattle.bits.specs.Examples.{right, allRight, written}
 
 pub examples : allRight written ≡ true
-unfolding digitsIn binaryDigits bitLength leastFrom ceilLog2 right allRight
+unfolding digitsIn binaryDigits bitLength bit withBit leastFrom ceilLog2 right allRight
 examples = refl

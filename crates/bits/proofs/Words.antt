@@ -12,7 +12,7 @@ use lib.Dec.{eqb, ltb}
 use lib.Pow.{pow-pos}
 use borrow.Author.Tests.{eqb-true, eq-eqb, lt-ltb, le-ltb, ltb-true, ltb-false}
 use Rattle.bits.specs.Digits.{value, bit}
-use Rattle.bits.specs.Words.{withBit, lowAgree, wordWithBit}
+use Rattle.bits.specs.Words.{withBit, lowAgree, wordWithBit, BitLaws}
 use Rattle.bits.proofs.Digits.{bit-low, bit-step, bit-ext, bit-above, lt-of-bits, halves, lowest-value}
 
 -- ---- a number made of a half and a lowest digit
@@ -157,3 +157,11 @@ lowAgree-mod k a b =
     bits-agree k a b (λ i l.
     let h = suc-le-suc l in
     sym (bit-mod (suc k) i a h) ∙ ap (bit i) (eqb-true (a % m) (b % m) e) ∙ bit-mod (suc k) i b h))
+
+pub bit-laws : BitLaws
+bit-laws = record {
+  written = bit-same;
+  unchanged = bit-other;
+  spelled = bit-ext;
+  compared = λ k a b. (agree-bits k a b, bits-agree k a b);
+}

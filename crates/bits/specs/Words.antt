@@ -1,6 +1,8 @@
 -- One bit changed, and the low bits of two numbers compared (paper 000, section 3: writing j[k], and j[k..0]);
 -- the same for words of a fixed width, and masks of stations. Assumes nothing.
-use Prim.Native.Nat.{ℕ, zero, suc, _+_, _-_, _*_, _^_}
+use Prim.Native.Nat.{ℕ, zero, suc, _+_, _-_, _*_, _^_, _≤_}
+use mathlib.Core.Path.{_≡_}
+use mathlib.Core.Logic.{_↔_}
 use mathlib.Core.Bool.{Bool, true, _&&_, Bool·beq, cond}
 use lib.Dec.{ltb}
 use Rattle.bits.specs.Digits.{value, bit}
@@ -33,3 +35,14 @@ member s mask = bit s mask
 -- the mask with station s in it; a station past the mask's room changes nothing
 unfoldable pub insert : ℕ → ℕ → ℕ
 insert s mask = wordWithBit maskBits s true mask
+
+-- ---- what reading, writing and comparing mean (paper 000, section 3)
+
+pub record BitLaws : Type 0 where
+  -- "when writing a bit b to j[k], .. the k-th bit j[k] becomes b and all other bits remain unchanged"
+  pub written : (k : ℕ) (b : Bool) (n : ℕ) → bit k (withBit k b n) ≡ b
+  pub unchanged : (k i : ℕ) (b : Bool) (n : ℕ) → (i ≡ k → ⊥) → bit i (withBit k b n) ≡ bit i n
+  -- a number is its bits
+  pub spelled : (a b : ℕ) → ((k : ℕ) → bit k a ≡ bit k b) → a ≡ b
+  -- j[k..0] = l[k..0]: each bit up to k is the same
+  pub compared : (k a b : ℕ) → (lowAgree k a b ≡ true) ↔ ((i : ℕ) → i ≤ k → bit i a ≡ bit i b)

@@ -31,7 +31,8 @@ module _ (o : Opening) (E : Event → Type 0) (φ : State → Type 0) (m : Mark 
   marked (h ▷ f) e k (inr a) =
       subst φ (sym (next-accepted o (after o h) f (a .1))) (m .made (after o h) f (subst E (sym (a .0)) k) (a .1))
 
-  marker-step : (h : History) (f : Event) → (φ (after o h) → (e : Event) × E e × Accepted o e h) → φ (next o (after o h) f) → (e : Event) × E e × Accepted o e (h ▷ f)
+  marker-step : (h : History) (f : Event) → (φ (after o h) → (e : Event) × E e × Accepted o e h) → φ (next o (after o h) f)
+      → (e : Event) × E e × Accepted o e (h ▷ f)
   marker-step h f before = next-ind (λ (s : State). φ s → (e : Event) × E e × Accepted o e (h ▷ f)) o (after o h) f old (λ n y. new n (m .only (after o h) f n y))
     where
       old : φ (after o h) → (e : Event) × E e × Accepted o e (h ▷ f)

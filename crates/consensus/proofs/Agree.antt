@@ -5,7 +5,7 @@ use mathlib.Core.Path.{_≡_, refl, sym, subst, _∙_, ap, ap₂}
 use mathlib.Core.Logic.{_⊎_, inl, inr}
 use mathlib.Core.Bool.{Bool, true, false}
 use mathlib.Core.Option.{Option, none, some, Option·none-ne-some, Option·some-injective}
-use mathlib.Core.List.{List, [], _∷_, _++_}
+use mathlib.Core.List.{List, [], _∷_, _++_, map}
 use native.Mathlib.Omega.{arith}
 use native.Mathlib.Nat.{le-antisymm}
 use native.Mathlib.Numerals.{add-one}
@@ -16,14 +16,14 @@ use Rattle.consensus.specs.Events.{History, Rule, byStation, byClaim, Op
 use Rattle.consensus.specs.State.{Stage, idle, waiting, voting, awaiting, seeking, finish-voting, finish-awaiting, decided, State, claimed, claim-of}
 use Rattle.consensus.specs.Rules.{finish-ballot, after}
 use Rattle.consensus.specs.Words.{decision, voted-in, answers-taken, Decided, Put-in, longest}
-use Rattle.consensus.specs.Demand3.{Ballot-count, Same}
+use Rattle.consensus.specs.Demand3.{first-ballots, Ballots-voted, Same}
 use Rattle.consensus.proofs.Basics.{by-bool, no-clash}
 use Rattle.consensus.proofs.Invariant.{Word, Unfinished, Decided-by, Part-ok, votes, votes-by}
 use Rattle.consensus.proofs.Spelling.{word-unique}
 use Rattle.consensus.proofs.Steps.{opening}
 use Rattle.consensus.proofs.Reached.{reached}
 use Rattle.consensus.proofs.Accepted.{put-in-shown}
-use Rattle.consensus.proofs.Told.{stage-after, answers-count, voted-shown, answers-shown, decided-shown, up-to, answers-up-to}
+use Rattle.consensus.proofs.Told.{stage-after, answers-count, voted-shown, answers-shown, answers-ballots, decided-shown, answers-up-to}
 use Rattle.consensus.proofs.Longest.{round-short}
 
 pub decided-stage : (g : Stage) (v : ℕ) → decision g ≡ some v → (k : ℕ) × (g ≡ decided v k)
@@ -56,10 +56,10 @@ a-claimer : (o : Opening) (r : Rule) (st : State) (v k : ℕ) → Decided-by o r
 a-claimer o byStation st v k x = (x .0, x .2, x .3)
 a-claimer o byClaim st v k x = (x .0, x .2, x .3)
 
-pub length-up-to : (m : ℕ) → length (up-to m) ≡ m
-unfolding up-to
+pub length-up-to : (m : ℕ) → length (first-ballots m) ≡ m
+unfolding first-ballots
 length-up-to zero = refl
-length-up-to (suc m) = length-append (up-to m) (m ∷ []) ∙ add-one (length (up-to m)) ∙ ap suc (length-up-to m)
+length-up-to (suc m) = length-append (first-ballots m) (m ∷ []) ∙ add-one (length (first-ballots m)) ∙ ap suc (length-up-to m)
 
 module _ (o : Opening) (h : History) where
   -- what the invariant says of a decider
@@ -82,8 +82,8 @@ module _ (o : Opening) (h : History) where
       let y = decider q w e in
       let a = agreed (o .count) (o .rule) (after o h) v (x .round) w (y .round) (x .reason) (y .reason) in record {
         claim = a .0;
-        ballots = voted-shown o p h ∙ ap (λ (g : Stage). up-to (votes o g)) (x .stage) ∙ ap up-to (a .1)
-            ∙ sym (ap (λ (g : Stage). up-to (votes o g)) (y .stage)) ∙ sym (voted-shown o q h);
+        ballots = voted-shown o p h ∙ ap (λ (g : Stage). first-ballots (votes o g)) (x .stage) ∙ ap first-ballots (a .1)
+            ∙ sym (ap (λ (g : Stage). first-ballots (votes o g)) (y .stage)) ∙ sym (voted-shown o q h);
         answers = answers-shown o p h ∙ ap (λ (g : Stage). answers-up-to (after o h .answer-of) (answers-count o g)) (x .stage)
             ∙ ap (answers-up-to (after o h .answer-of)) (a .1)
             ∙ sym (ap (λ (g : Stage). answers-up-to (after o h .answer-of) (answers-count o g)) (y .stage)) ∙ sym (answers-shown o q h);
@@ -95,17 +95,24 @@ module _ (o : Opening) (h : History) where
       let t = a-claimer o (o .rule) (after o h) v (x .round) (x .reason) in
       (t .0, put-in-shown o (t .0) v h .1 (t .1, t .2))
 
-  voted-count : (p v : ℕ) (x : Decider p v) → length (voted-in o p h) ≡ votes o (decided v (x .round))
-  voted-count p v x = ap length (voted-shown o p h) ∙ length-up-to _ ∙ ap (votes o) (x .stage)
+  voted-by : (p v : ℕ) (x : Decider p v) → voted-in o p h ≡ first-ballots (votes o (decided v (x .round)))
+  voted-by p v x = voted-shown o p h ∙ ap (λ (g : Stage). first-ballots (votes o g)) (x .stage)
+
+  pub answered : (p v : ℕ) → Decided o p v h → map (λ x. x .0) (answers-taken o p h) ≡ voted-in o p h
+  answered p v d =
+      let x = decider p v d in
+      ap (map (λ y. y .0)) (answers-shown o p h ∙ ap (λ (g : Stage). answers-up-to (after o h .answer-of) (answers-count o g)) (x .stage))
+      ∙ answers-ballots (after o h .answer-of) _
+      ∙ sym (voted-by p v x)
 
 pub cost-by : (n : ℕ) (r : Rule) (h : History) (p v : ℕ) → Decided (opening n r) p v h
-    → Ballot-count r (rounds (opening n r)) (longest (opening n r) h) (length (voted-in (opening n r) p h))
-cost-by n byStation h p v d = voted-count (opening n byStation) h p v (decider (opening n byStation) h p v d)
+    → Ballots-voted r (rounds (opening n r)) (longest (opening n r) h) (voted-in (opening n r) p h)
+cost-by n byStation h p v d = voted-by (opening n byStation) h p v (decider (opening n byStation) h p v d)
 cost-by n byClaim h p v d =
     let x = decider (opening n byClaim) h p v d in
-    let count = voted-count (opening n byClaim) h p v x in (
+    let twice : suc (finish-ballot (x .round)) ≡ 2 * suc (x .round) = omega arith in (
       suc (x .round),
-      count ∙ (omega arith),
+      voted-by (opening n byClaim) h p v x ∙ ap first-ballots twice,
       (omega arith),
       round-short (opening n byClaim) refl h (x .round) (x .reason .0) (x .reason .2) (x .reason .4),
     )

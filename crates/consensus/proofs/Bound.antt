@@ -121,13 +121,15 @@ found-spent n byStation st p j k d m l =
     (λ e. omega arith)
 found-spent n byClaim st p j k d m l = l
 
-pub finished-spent : (n : ℕ) (a : Bool) (st : State) (p j k d m : ℕ) → m ≤ begun byClaim n k + 4 + n → Spent (opening n byClaim) st p m (finished a j k d)
+pub finished-spent : (n : ℕ) (a : Bool) (st : State) (p j k d m : ℕ) → m ≤ begun byClaim n k + 4 + n
+    → Spent (opening n byClaim) st p m (finished a j k d)
 finished-spent n true st p j k d m l = omega arith
 finished-spent n false st p j k d m l = omega arith
 
 module _ (o : Opening) (st : State) (p : ℕ) (below : p < o .count) where
   -- the cursor is not at a claim that is held and fits, where the test there failed
-  not-there : (j k d t : ℕ) → Word o st (suc k) d → held st p t ≡ true → Fits o st (suc k) t → (held st p j && lowAgree k d (spelled o st j)) ≡ false → j ≡ t → ⊥
+  not-there : (j k d t : ℕ) → Word o st (suc k) d → held st p t ≡ true → Fits o st (suc k) t → (held st p j && lowAgree k d (spelled o st j)) ≡ false
+      → j ≡ t → ⊥
   not-there j k d t w h f e q = no-clash (held st p j && lowAgree k d (spelled o st j)) passed e
     where
       agree : lowAgree k d (spelled o st t) ≡ true

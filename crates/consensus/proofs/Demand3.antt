@@ -7,17 +7,19 @@ use mathlib.Core.Option.{Option, none, some, Option·none-ne-some, Option·some-
 use Rattle.bits.specs.Digits.{bit, binaryDigits, digitsIn}
 use Rattle.bits.specs.Words.{withBit, lowAgree}
 use Rattle.bits.specs.Log.{ceilLog2, leastFrom}
-use Rattle.consensus.specs.Events.{Event, History, start, _▷_, byStation, byClaim, Opening}
+use Rattle.consensus.specs.Events.{Event, History, start, _▷_, Rule, byStation, byClaim, Opening}
 use Rattle.consensus.specs.State.{State, held, answered, update}
 use Rattle.consensus.specs.Rules.{any-below, stage-number, number, step-from, effect, next, after}
 use Rattle.consensus.specs.Words.{Claims-fit, takes, waits-on, Supplied, Takes-supplied, Supplied-steps}
+use Rattle.consensus.specs.Told.{Told}
 use Rattle.consensus.specs.Demand3.{Demand3, Demand3-of, No-42}
-use Rattle.consensus.specs.Examples.{opening, lone-by-station, lone-by-claim, Bounds-met}
+use Rattle.consensus.specs.Examples.{opening, lone-by-station, lone-by-claim, beside-a-lost-claim, lacking-a-held-claim, Bounds-met}
 use Rattle.consensus.proofs.Basics.{by-bool, no-clash, any-found, any-none, and-true, not-false→true}
 use Rattle.consensus.proofs.Reached.{reached}
-use Rattle.consensus.proofs.Accepted.{holds-shown, answered-shown}
-use Rattle.consensus.proofs.Longest.{fit-beginning}
-use Rattle.consensus.proofs.Agree.{agreement, validity, cost-by}
+use Rattle.consensus.proofs.Accepted.{put-in-shown, holds-shown, lost-shown, answered-shown}
+use Rattle.consensus.proofs.Told.{first-answer-shown, waits-shown, decided-shown, shown-decided}
+use Rattle.consensus.proofs.Longest.{fit-beginning, put-longest, longest-put}
+use Rattle.consensus.proofs.Agree.{agreement, validity, answered as all-answered, cost-by}
 use Rattle.consensus.proofs.Supplied.{bound}
 use Rattle.consensus.proofs.Never.{never-refused, no-42}
 
@@ -75,7 +77,8 @@ module _ (o : Opening) (p : ℕ) (h : History) where
   supplied-told : Dec (Supplied o p h)
   supplied-told = go own-told all-told (answers-told (waits-on o p h))
     where
-      go : Dec (held st p p ≡ true) → Dec ((s t : ℕ) → held st s t ≡ true → held st p t ≡ true) → Dec (Answered-if (waits-on o p h)) → Dec (Supplied o p h)
+      go : Dec (held st p p ≡ true) → Dec ((s t : ℕ) → held st s t ≡ true → held st p t ≡ true) → Dec (Answered-if (waits-on o p h))
+          → Dec (Supplied o p h)
       go (yes a) (yes b) (yes c) = yes (supplied-of a b c)
       go (no f) b c = no (λ s. f (holds-shown o p p h .0 (s .own)))
       go (yes a) (no f) c = no (λ s. f (λ i t x. holds-shown o p t h .0 (s .all i t (holds-shown o i t h .1 x))))
@@ -96,6 +99,23 @@ pub counted : (o : Opening) (h : History) (p : ℕ) → (m : ℕ) × Supplied-st
 counted o start p = (0, refl)
 counted o (h ▷ e) p = one-more o p h e (takes-told o p h e) (counted o h p)
 
+-- ---- the words
+
+pub told : Told
+told = record {
+  words = λ o h. record {
+    put-in = λ s v. put-in-shown o s v h;
+    holds = λ s t. holds-shown o s t h;
+    lost = λ s. lost-shown o s h;
+    is-answered = λ b. answered-shown o b h;
+    first = first-answer-shown o h;
+    waits = λ p. waits-shown o p h;
+    has-decided = λ p v. (decided-shown o p v h, shown-decided o p v h);
+    none-longer = λ s v a. put-longest o s v h a;
+    as-long = longest-put o h;
+  };
+}
+
 -- ---- the demand
 
 pub demand3 : Demand3
@@ -103,6 +123,7 @@ demand3 = record {
   holds = λ o a h f. record {
     agreement = agreement o h;
     validity = validity o h;
+    answered = all-answered o h;
     cost = λ p v d. cost-by (o .count) (o .rule) h p v d;
     counted = counted o h;
     bound = bound o h;
@@ -115,16 +136,21 @@ no-event-42 = record { holds = λ o h f e. no-42 o h f e }
 
 -- ---- the bounds are met: the supplied steps of a lone claimant, counted
 
-count-5 : counted (opening 2 byStation) lone-by-station 0 .0 ≡ 5
-unfolding counted one-more takes-told supplied-told own-told all-told answers-told lacks by-bool waits-on bit binaryDigits digitsIn withBit lowAgree ceilLog2 leastFrom update any-below stage-number number step-from effect next after
-count-5 = refl
+-- the lists whose supplied steps are counted, with the stations, the rule and the number
+abbrev Counts : ℕ → Rule → History → ℕ → Type 0
+Counts n r h m = counted (opening n r) h 0 .0 ≡ m
 
-count-6 : counted (opening 1 byClaim) lone-by-claim 0 .0 ≡ 6
+counts : Counts 2 byStation lone-by-station 5 × Counts 1 byClaim lone-by-claim 6 × Counts 2 byStation beside-a-lost-claim 5 × Counts 2 byStation lacking-a-held-claim 0
 unfolding counted one-more takes-told supplied-told own-told all-told answers-told lacks by-bool waits-on bit binaryDigits digitsIn withBit lowAgree ceilLog2 leastFrom update any-below stage-number number step-from effect next after
-count-6 = refl
+counts = (refl, refl, refl, refl)
+
+counted-as : (n : ℕ) (r : Rule) (h : History) (m : ℕ) → Counts n r h m → Supplied-steps (opening n r) 0 m h
+counted-as n r h m e = subst (λ (k : ℕ). Supplied-steps (opening n r) 0 k h) e (counted (opening n r) h 0 .1)
 
 pub bounds-met : Bounds-met
 bounds-met = record {
-  by-station = subst (λ (m : ℕ). Supplied-steps (opening 2 byStation) 0 m lone-by-station) count-5 (counted (opening 2 byStation) lone-by-station 0 .1);
-  by-claim = subst (λ (m : ℕ). Supplied-steps (opening 1 byClaim) 0 m lone-by-claim) count-6 (counted (opening 1 byClaim) lone-by-claim 0 .1);
+  by-station = counted-as 2 byStation lone-by-station 5 (counts .0);
+  by-claim = counted-as 1 byClaim lone-by-claim 6 (counts .1);
+  nobody-holds = counted-as 2 byStation beside-a-lost-claim 5 (counts .2);
+  somebody-holds = counted-as 2 byStation lacking-a-held-claim 0 (counts .3);
 }

@@ -99,7 +99,8 @@ module _ (o : Opening) (st st' : State) (g : Grows st st') where
   decided-grows-by byClaim v k x =
       (x .0, word-grows _ _ (x .1), g .claims _ (x .2) .0, g .claims _ (x .2) .1 ∙ x .3, unfinished-grows k (x .4), g .answers _ _ (x .5))
 
-  stage-grows : (s : Stage) (holds : ℕ → Bool) (cast : ℕ → Option Bool) → Held-claimed holds → Stage-ok o st s holds cast → Stage-ok o st' s holds cast
+  stage-grows : (s : Stage) (holds : ℕ → Bool) (cast : ℕ → Option Bool) → Held-claimed holds → Stage-ok o st s holds cast
+      → Stage-ok o st' s holds cast
   stage-grows idle holds cast hc x = x
   stage-grows waiting holds cast hc x = x
   stage-grows (voting j k d) holds cast hc x = spelling-grows holds j k k d hc x

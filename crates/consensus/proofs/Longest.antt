@@ -1,14 +1,14 @@
 -- Claims put in are no longer than K and fit their width, and a finish answer 0 tells of a claim with a higher bit. So by claim a round that
 -- a station may be in is below K. Assumes nothing.
-use Prim.Native.Nat.{ℕ, zero, suc, _+_, _*_, _^_, _<_, _≤_, max}
+use Prim.Native.Nat.{ℕ, zero, suc, _+_, _*_, _^_, _<_, _≤_, zero-le, max}
 use mathlib.Core.Path.{_≡_, refl, sym, subst, _∙_, ap}
-use mathlib.Core.Logic.{_⊎_, inl, inr}
+use mathlib.Core.Logic.{_⊎_, inl, inr, ⊎-elim}
 use mathlib.Core.Bool.{Bool, true, false, cond}
 use mathlib.Core.Option.{Option, none, some}
 use native.Mathlib.Omega.{arith}
-use native.Mathlib.Nat.{le-trans, le-max-left, le-max-right, le-of-eq, lt-of-lt-of-le}
-use lib.Dec.{eqb}
-use borrow.Author.Tests.{eq-eqb}
+use native.Mathlib.Nat.{le-trans, le-of-lt, le-max-left, le-max-right, max-eq-left, max-eq-right, le-of-eq}
+use lib.Dec.{eqb, leb}
+use borrow.Author.Tests.{eqb-true, eq-eqb, leb-true, leb-false}
 use Rattle.bits.specs.Digits.{bit, bitLength}
 use Rattle.bits.specs.Words.{claimBits}
 use Rattle.bits.proofs.Digits.{length-pos, length-least, bit-below-length}
@@ -16,6 +16,7 @@ use Rattle.consensus.specs.Events.{Event, claim, deliver, step, lose, an
 use Rattle.consensus.specs.State.{State, claimed, claim-of}
 use Rattle.consensus.specs.Rules.{finish-ballot, number, after}
 use Rattle.consensus.specs.Words.{Beginning, Fitting, Claims-fit, put-length, accepts, Accepted, longest}
+use Rattle.consensus.proofs.Basics.{by-bool}
 use Rattle.consensus.proofs.Invariant.{Unfinished, Finish-cast}
 use Rattle.consensus.proofs.Spelling.{finish-answer}
 use Rattle.consensus.proofs.Reached.{reached}
@@ -26,8 +27,38 @@ fit-beginning g start b f = subst Claims-fit (sym b) f
 fit-beginning g (h ▷ e) (inl b) f = subst Claims-fit (sym b) f
 fit-beginning g (h ▷ e) (inr b) f = fit-beginning g h b (f .0)
 
+max-is : (a b : ℕ) → (max a b ≡ a) ⊎ (max a b ≡ b)
+max-is a b = by-bool (leb b a) (λ e. inl (max-eq-left (leb-true b a e))) (λ e. inr (max-eq-right (le-of-lt (leb-false b a e))))
+
+no-more : (x : ℕ) → max x 0 ≡ x
+no-more x = max-eq-left zero-le
+
 module _ (o : Opening) where
-  put-longest : (s v : ℕ) (h : History) → Accepted o (claim s v) h → bitLength v ≤ longest o h
+  abbrev Longest-put : History → ℕ → Type 0
+  Longest-put h k = (k ≡ 0) ⊎ ((s : ℕ) × (v : ℕ) × Accepted o (claim s v) h × (bitLength v ≡ k))
+
+  later : (h : History) (e : Event) (k : ℕ) → Longest-put h k → Longest-put (h ▷ e) k
+  later h e k (inl q) = inl q
+  later h e k (inr x) = inr (x .0, x .1, inl (x .2), x .3)
+
+  -- the claim that was longest stays so, or the new one is
+  longest-more : (h : History) (e : Event) → Longest-put h (longest o h) → Longest-put (h ▷ e) (max (longest o h) (put-length (accepts o h e) e))
+  longest-more h (claim s v) x =
+      by-bool (accepts o h (claim s v))
+      (λ t.
+      subst (λ (b : Bool). Longest-put (h ▷ claim s v) (max (longest o h) (cond b (bitLength v) 0))) (sym t)
+      (⊎-elim (λ q. subst (Longest-put (h ▷ claim s v)) (sym q) (later h (claim s v) (longest o h) x))
+      (λ q. inr (s, v, inr (refl, eqb-true _ 0 t), sym q))
+      (max-is (longest o h) (bitLength v))))
+      (λ t.
+      subst (λ (b : Bool). Longest-put (h ▷ claim s v) (max (longest o h) (cond b (bitLength v) 0))) (sym t)
+      (subst (Longest-put (h ▷ claim s v)) (sym (no-more (longest o h))) (later h (claim s v) (longest o h) x)))
+  longest-more h (deliver t s) x = subst (Longest-put (h ▷ deliver t s)) (sym (no-more (longest o h))) (later h (deliver t s) (longest o h) x)
+  longest-more h (step s) x = subst (Longest-put (h ▷ step s)) (sym (no-more (longest o h))) (later h (step s) (longest o h) x)
+  longest-more h (lose s) x = subst (Longest-put (h ▷ lose s)) (sym (no-more (longest o h))) (later h (lose s) (longest o h) x)
+  longest-more h (answer b a) x = subst (Longest-put (h ▷ answer b a)) (sym (no-more (longest o h))) (later h (answer b a) (longest o h) x)
+
+  pub put-longest : (s v : ℕ) (h : History) → Accepted o (claim s v) h → bitLength v ≤ longest o h
   unfolding longest
   put-longest s v start a = absurd a
   put-longest s v (h ▷ e) (inl a) = le-trans (put-longest s v h a) (le-max-left (longest o h) _)
@@ -36,6 +67,12 @@ module _ (o : Opening) where
       (le-of-eq
       (ap (λ (b : Bool). cond b (bitLength v) 0) (sym (eq-eqb _ 0 (a .1))) ∙ ap (put-length (accepts o h e)) (sym (a .0))))
       (le-max-right (longest o h) (put-length (accepts o h e) e))
+
+  -- the larger of two lengths is one of them
+  pub longest-put : (h : History) → (longest o h ≡ 0) ⊎ ((s : ℕ) × (v : ℕ) × Accepted o (claim s v) h × (bitLength v ≡ longest o h))
+  unfolding longest
+  longest-put start = inl refl
+  longest-put (h ▷ e) = longest-more h e (longest-put h)
 
   put-fits : (s v : ℕ) (h : History) → Claims-fit h → Accepted o (claim s v) h → v < 2 ^ claimBits
   put-fits s v start f a = absurd a

@@ -13,11 +13,12 @@ use Rattle.consensus.specs.Events.{Event, claim, deliver, step, lose, an
 use Rattle.consensus.specs.State.{Stage, idle, waiting, voting, awaiting, seeking, finish-voting, finish-awaiting, decided, State, not-idle, claimed, held, answered}
 use Rattle.consensus.specs.Rules.{bit-ballot, finish-ballot, no-station, was-cast, as-bit, refuse, last-refusal, stage-number, number, after}
 use Rattle.consensus.specs.Words.{Claims-fit, Put-in, Lost, Decided, Supplied, waits-on}
+use Rattle.consensus.specs.Told.{awaited}
 use Rattle.consensus.proofs.Basics.{by-bool, no-clash}
 use Rattle.consensus.proofs.Invariant.{Part-ok, Inv}
 use Rattle.consensus.proofs.Reached.{reached}
 use Rattle.consensus.proofs.Accepted.{holds-shown, lost-shown, put-in-shown, answered-shown}
-use Rattle.consensus.proofs.Told.{stage-after, waiting-ballot, waits-shown, shown-decided}
+use Rattle.consensus.proofs.Told.{stage-after, waits-shown, shown-decided}
 use Rattle.consensus.proofs.Ballots.{finish-below}
 
 -- a test that is not met refuses nothing
@@ -36,15 +37,17 @@ module _ (o : Opening) (h : History) (fit : Claims-fit h) where
       ne-eqb (suc (finish-ballot k)) (ballots o) (λ q. let f : suc (finish-ballot k) ≡ 2 * claimBits = q ∙ count in omega arith)
 
   -- so the last test of STEP is never met
-  pub last-passes : o .rule ≡ byClaim → (k : ℕ) (x : Option Bool) → after o h .answer-of (finish-ballot k) ≡ x → last-refusal o x (finish-ballot k) ≡ 0
+  pub last-passes : o .rule ≡ byClaim → (k : ℕ) (x : Option Bool) → after o h .answer-of (finish-ballot k) ≡ x
+      → last-refusal o x (finish-ballot k) ≡ 0
   last-passes r k none e = refl
   last-passes r k (some true) e = refl
   last-passes r k (some false) e = passes _ 42 0 (not-last r k e)
 
   abbrev Waits : ℕ → Stage → Type 0
-  Waits p g = (b : ℕ) → waiting-ballot o g ≡ some b → answered (after o h .answer-of b) ≡ true
+  Waits p g = (b : ℕ) → awaited o g ≡ some b → answered (after o h .answer-of b) ≡ true
 
-  unrefused : (p : ℕ) (g : Stage) → Part-ok o (after o h) p g (after o h .station p .holds) (after o h .station p .cast) → (g ≡ idle → ⊥) → ((v k : ℕ) → g ≡ decided v k → ⊥)
+  unrefused : (p : ℕ) (g : Stage) → Part-ok o (after o h) p g (after o h .station p .holds) (after o h .station p .cast) → (g ≡ idle → ⊥)
+      → ((v k : ℕ) → g ≡ decided v k → ⊥)
       → held (after o h) p p ≡ true → Waits p g → stage-number o (after o h) p g ≡ 0
   unfolding stage-number
   unrefused p idle x i d own w = absurd (i refl)
@@ -57,7 +60,8 @@ module _ (o : Opening) (h : History) (fit : Claims-fit h) where
       passes _ 8 _ (ap not (w (finish-ballot k) refl)) ∙ last-passes (x .stage .0) k _ refl
   unrefused p (decided v k) x i d own w = absurd (d v k refl)
 
-  pub never-refused : (p v : ℕ) → Put-in o p v h → (Lost o p h → ⊥) → ((w : ℕ) → Decided o p w h → ⊥) → Supplied o p h → number o (after o h) (step p) ≡ 0
+  pub never-refused : (p v : ℕ) → Put-in o p v h → (Lost o p h → ⊥) → ((w : ℕ) → Decided o p w h → ⊥) → Supplied o p h
+      → number o (after o h) (step p) ≡ 0
   unfolding number
   never-refused p v put live undecided s =
       let own = holds-shown o p p h .0 (s .own) in
@@ -79,7 +83,8 @@ module _ (o : Opening) (h : History) (fit : Claims-fit h) where
   zero-other : _≡_ {A = ℕ} 0 42 → ⊥
   zero-other e = omega arith
 
-  stage-other : (p : ℕ) (g : Stage) → Part-ok o (after o h) p g (after o h .station p .holds) (after o h .station p .cast) → stage-number o (after o h) p g ≡ 42 → ⊥
+  stage-other : (p : ℕ) (g : Stage) → Part-ok o (after o h) p g (after o h .station p .holds) (after o h .station p .cast)
+      → stage-number o (after o h) p g ≡ 42 → ⊥
   unfolding stage-number
   stage-other p idle x e = omega arith
   stage-other p waiting x e = refuse-other (not (held (after o h) p p)) 8 0 refl zero-other e

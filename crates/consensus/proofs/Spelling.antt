@@ -118,7 +118,8 @@ module _ (o : Opening) (st : State) where
   fits-word k t f a = record { answers = f; above = a }
 
 -- two numbers that agree in the low bits and differ: the one has a bit above, if the other has none
-pub higher-bit : (k d v : ℕ) → ((i : ℕ) → i < k → bit i d ≡ bit i v) → ((i : ℕ) → k ≤ i → bit i d ≡ false) → (d ≡ v → ⊥) → (i : ℕ) × (k ≤ i) × (bit i v ≡ true)
+pub higher-bit : (k d v : ℕ) → ((i : ℕ) → i < k → bit i d ≡ bit i v) → ((i : ℕ) → k ≤ i → bit i d ≡ false) → (d ≡ v → ⊥)
+    → (i : ℕ) × (k ≤ i) × (bit i v ≡ true)
 higher-bit k d v low high ne =
     by-bool (any-below (bitLength v) test)
     (λ e. let t = any-found (bitLength v) test e in let both = and-true (leb k (t .0)) (bit (t .0) v) (t .2) in (t .0, leb-true k (t .0) (both .0), both .1))

@@ -198,7 +198,8 @@ module _ (o : Opening) (st : State) (s : ℕ) (inv : Inv o st) (below : s < o .c
   restaged : (g g' : Stage) → Part g → Restaged o st s g g' → Kept o st (set-station st s (moved st s g' cast))
   restaged g g' x r = restage g g' x (r .active) (r .more) (r .ok)
 
-  from-waiting : Part waiting → claimed st s ≡ true → stage-number o st s waiting ≡ 0 → Kept o st (set-station st s (step-from o st s waiting (st .station s)))
+  from-waiting : Part waiting → claimed st s ≡ true → stage-number o st s waiting ≡ 0
+      → Kept o st (set-station st s (step-from o st s waiting (st .station s)))
   unfolding step-from stage-number
   from-waiting x c e =
       restaged waiting _ x (first-ok (o .count) (o .rule) st s below (not-false→true _ (refused-not _ 8 0 refl e .0)) c)
@@ -239,7 +240,8 @@ module _ (o : Opening) (st : State) (s : ℕ) (inv : Inv o st) (below : s < o .c
         unfinished = Spelling.unfinished-of o st r k (y .round);
       }
 
-  from-finish-voting : (j k d : ℕ) → Part (finish-voting j k d) → Kept o st (set-station st s (step-from o st s (finish-voting j k d) (st .station s)))
+  from-finish-voting : (j k d : ℕ) → Part (finish-voting j k d)
+      → Kept o st (set-station st s (step-from o st s (finish-voting j k d) (st .station s)))
   unfolding step-from
   from-finish-voting j k d x =
       recast (finish-voting j k d) (finish-awaiting j k d) (finish-ballot k) (eqb d (claim-of st j)) x refl refl refl
@@ -289,10 +291,12 @@ module _ (o : Opening) (st : State) (s : ℕ) (inv : Inv o st) (below : s < o .c
       go false f = finish-goes-on j k d (x .stage .0) (x .stage .1) f
 
   -- every accepted STEP, by the stage g that the station is at
-  pub step-keeps : (g : Stage) → st .station s .stage ≡ g → stage-number o st s g ≡ 0 → Kept o st (set-station st s (step-from o st s g (st .station s)))
+  pub step-keeps : (g : Stage) → st .station s .stage ≡ g → stage-number o st s g ≡ 0
+      → Kept o st (set-station st s (step-from o st s g (st .station s)))
   step-keeps g e n = go g (subst Part e (inv .parts s)) (λ a. ap not-idle e ∙ a) n
     where
-      go : (g : Stage) → Part g → (not-idle g ≡ true → claimed st s ≡ true) → stage-number o st s g ≡ 0 → Kept o st (set-station st s (step-from o st s g (st .station s)))
+      go : (g : Stage) → Part g → (not-idle g ≡ true → claimed st s ≡ true) → stage-number o st s g ≡ 0
+          → Kept o st (set-station st s (step-from o st s g (st .station s)))
       go idle x c n = absurd (idle-refused o st s n)
       go waiting x c n = from-waiting x (c refl) n
       go (voting j k d) x c n = from-voting j k d x

@@ -27,7 +27,8 @@ abbrev Part : Opening → State → ℕ → Stage → Type 0
 Part o st p g = Part-ok o st p g (st .station p .holds) (st .station p .cast)
 
 -- an accepted STEP spends what its stage allows
-spent-step : (o : Opening) (st : State) (p : ℕ) → p < o .count → (g : Stage) → Part o st p g → stage-number o st p g ≡ 0 → (m m' : ℕ) → Advance st p m m'
+spent-step : (o : Opening) (st : State) (p : ℕ) → p < o .count → (g : Stage) → Part o st p g → stage-number o st p g ≡ 0 → (m m' : ℕ)
+    → Advance st p m m'
     → Spent o st p m g → Spent o st p m' (step-from o st p g (st .station p) .stage)
 unfolding step-from
 spent-step o st p l idle x n m m' a z = absurd (idle-refused o st p n)
@@ -45,7 +46,8 @@ spent-step o st p l (finish-awaiting j k d) x n m m' a z =
 spent-step o st p l (decided v k) x n m m' a z = absurd (decided-refused o st p v k n)
 
 -- what was spent stays spent when others move
-spent-grows : (o : Opening) (st st' : State) (p m : ℕ) (g : Stage) → Grows st st' → ((t : ℕ) → held st p t ≡ true → claimed st t ≡ true) → Spent o st p m g → Spent o st' p m g
+spent-grows : (o : Opening) (st st' : State) (p m : ℕ) (g : Stage) → Grows st st' → ((t : ℕ) → held st p t ≡ true → claimed st t ≡ true)
+    → Spent o st p m g → Spent o st' p m g
 spent-grows o st st' p m idle w c z = z
 spent-grows o st st' p m waiting w c z = z
 spent-grows o st st' p m (voting j k d) w c z = z

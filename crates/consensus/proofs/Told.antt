@@ -5,7 +5,7 @@ use mathlib.Core.Path.{_≡_, refl, sym, subst, _∙_, ap, ap₂, fun-ext}
 use mathlib.Core.Logic.{_⊎_, inl, inr, _↔_, ⊎-elim}
 use mathlib.Core.Bool.{Bool, true, false, cond, _&&_}
 use mathlib.Core.Option.{Option, none, some, Option·none-ne-some, Option·some-injective}
-use mathlib.Core.List.{List, [], _∷_, _++_, append-nil}
+use mathlib.Core.List.{List, [], _∷_, _++_, map, append-nil, map-append}
 use native.Mathlib.Omega.{arith}
 use native.Mathlib.Nat.{le-refl, le-step, not-suc-le-zero}
 use lib.Dec.{eqb}
@@ -16,6 +16,8 @@ use Rattle.consensus.specs.Events.{Event, claim, deliver, step, lose, an
 use Rattle.consensus.specs.State.{Stage, idle, waiting, voting, awaiting, seeking, finish-voting, finish-awaiting, decided, Station, State, fresh, claim-of, held, answered, bit-of, update}
 use Rattle.consensus.specs.Rules.{bit-ballot, finish-ballot, spelled, as-bit, number, first-stage, found, sought, finished, step-from, stage-number, effect, next, after}
 use Rattle.consensus.specs.Words.{ballot-at, decision, given, or-else, listed, paired, with-answer, is-step, accepts, takes, first-answer, voted-in, waits-on, answers-taken, Decided}
+use Rattle.consensus.specs.Told.{awaited}
+use Rattle.consensus.specs.Demand3.{first-ballots}
 use Rattle.consensus.proofs.Basics.{by-bool, cond-ind, no-clash, update-ind, update-same, refused-not, not-false→true}
 use Rattle.consensus.proofs.Invariant.{Part-ok, Inv, votes, votes-by}
 use Rattle.consensus.proofs.Spelling.{below-suc}
@@ -36,7 +38,8 @@ given-refused b (step s) = refl
 given-refused b (lose s) = refl
 given-refused b (answer c a) = refl
 
-given-accepted : (o : Opening) (st : State) (e : Event) (b : ℕ) → number o st e ≡ 0 → or-else (st .answer-of b) (given b true e) ≡ effect o st e .answer-of b
+given-accepted : (o : Opening) (st : State) (e : Event) (b : ℕ) → number o st e ≡ 0
+    → or-else (st .answer-of b) (given b true e) ≡ effect o st e .answer-of b
 unfolding effect
 given-accepted o st (claim s v) b n = or-else-none (st .answer-of b)
 given-accepted o st (deliver t s) b n = or-else-none (st .answer-of b)
@@ -72,17 +75,6 @@ first-answer-shown o (h ▷ e) b =
 
 -- ---- what the stage says
 
--- the ballot that a station at this stage waits on
-abbrev pub waiting-ballot : Opening → Stage → Option ℕ
-waiting-ballot o idle = none
-waiting-ballot o waiting = none
-waiting-ballot o (voting j k d) = none
-waiting-ballot o (awaiting j k d) = some (bit-ballot o k)
-waiting-ballot o (seeking j k d) = none
-waiting-ballot o (finish-voting j k d) = none
-waiting-ballot o (finish-awaiting j k d) = some (finish-ballot k)
-waiting-ballot o (decided v k) = none
-
 -- how many answers it has taken
 abbrev pub answers-by : Rule → Opening → Stage → ℕ
 answers-by r o idle = 0
@@ -104,9 +96,9 @@ Adds (some b) m m' = (b ≡ m) × (m' ≡ suc m)
 
 -- a STEP from the stage g to the stage g'
 record Moves (o : Opening) (g g' : Stage) : Type 0 where
-  waits : ballot-at o g ≡ waiting-ballot o g'
+  waits : ballot-at o g ≡ awaited o g'
   voted : Adds (ballot-at o g) (votes o g) (votes o g')
-  answers : Adds (waiting-ballot o g) (answers-count o g) (answers-count o g')
+  answers : Adds (awaited o g) (answers-count o g) (answers-count o g')
 
 first-moves : (n : ℕ) (r : Rule) (s v : ℕ) → Moves (opening n r) waiting (first-stage r n s v)
 first-moves n byStation s v =
@@ -150,7 +142,8 @@ step-moves o st s (finish-awaiting j k d) p holds cast x n =
 step-moves o st s (decided v k) p holds cast x n = absurd (decided-refused o st s v k n)
 
 -- the ballot that an accepted STEP had waited on is answered
-waited-answered : (o : Opening) (st : State) (s : ℕ) (g : Stage) (b : ℕ) → waiting-ballot o g ≡ some b → stage-number o st s g ≡ 0 → answered (st .answer-of b) ≡ true
+waited-answered : (o : Opening) (st : State) (s : ℕ) (g : Stage) (b : ℕ) → awaited o g ≡ some b → stage-number o st s g ≡ 0
+    → answered (st .answer-of b) ≡ true
 unfolding stage-number
 waited-answered o st s idle b w n = absurd (Option·none-ne-some b w)
 waited-answered o st s waiting b w n = absurd (Option·none-ne-some b w)
@@ -163,20 +156,15 @@ waited-answered o st s (finish-awaiting j k d) b w n =
     subst (λ (x : ℕ). answered (st .answer-of x) ≡ true) (Option·some-injective _ b w) (not-false→true _ (refused-not _ 8 _ refl n .0))
 waited-answered o st s (decided v k) b w n = absurd (Option·none-ne-some b w)
 
--- 0, 1, .., m - 1
-unfoldable pub up-to : ℕ → List ℕ
-up-to zero = []
-up-to (suc m) = up-to m ++ (m ∷ [])
-
 -- the ballots 0, 1, .., m - 1 with their answers
 pub answers-up-to : (ℕ → Option Bool) → ℕ → List (ℕ × Bool)
 answers-up-to f zero = []
 answers-up-to f (suc m) = answers-up-to f m ++ ((m, bit-of (f m)) ∷ [])
 
-adds-ballot : (x : Option ℕ) (m m' : ℕ) → Adds x m m' → up-to m ++ listed true x ≡ up-to m'
-unfolding up-to
-adds-ballot none m m' e = append-nil (up-to m) ∙ ap up-to (sym e)
-adds-ballot (some b) m m' e = ap (λ (i : ℕ). up-to m ++ (i ∷ [])) (e .0) ∙ ap up-to (sym (e .1))
+adds-ballot : (x : Option ℕ) (m m' : ℕ) → Adds x m m' → first-ballots m ++ listed true x ≡ first-ballots m'
+unfolding first-ballots
+adds-ballot none m m' e = append-nil (first-ballots m) ∙ ap first-ballots (sym e)
+adds-ballot (some b) m m' e = ap (λ (i : ℕ). first-ballots m ++ (i ∷ [])) (e .0) ∙ ap first-ballots (sym (e .1))
 
 paired-answered : (b : ℕ) (x : Option Bool) → answered x ≡ true → paired b x ≡ some (b, bit-of x)
 paired-answered b none e = no-clash true refl (sym e)
@@ -190,6 +178,13 @@ adds-answer (some b) f m m' a e =
     ap (λ (y : Option (ℕ × Bool)). answers-up-to f m ++ listed true y) (paired-answered b (f b) (a b refl))
     ∙ ap (λ (i : ℕ). answers-up-to f m ++ ((i, bit-of (f i)) ∷ [])) (e .0)
     ∙ ap (answers-up-to f) (sym (e .1))
+
+-- without the answers they are the first ballots
+pub answers-ballots : (f : ℕ → Option Bool) (m : ℕ) → map (λ x. x .0) (answers-up-to f m) ≡ first-ballots m
+unfolding answers-up-to first-ballots
+answers-ballots f zero = refl
+answers-ballots f (suc m) =
+    map-append (λ x. x .0) (answers-up-to f m) ((m, bit-of (f m)) ∷ []) ∙ ap (λ (l : List ℕ). l ++ (m ∷ [])) (answers-ballots f m)
 
 answers-same : (f g : ℕ → Option Bool) (m : ℕ) → ((i : ℕ) → i < m → f i ≡ g i) → answers-up-to f m ≡ answers-up-to g m
 unfolding answers-up-to
@@ -216,11 +211,12 @@ module _ (o : Opening) (p : ℕ) where
       (step-moves o (after o h) p (stage-after h) (after o h .station p) _ _ (reached o h .parts p) (step-accepted o (after o h) p (k .accepted) .stage))
 
   -- where the STEP is not p's, or is refused: what a function of the stage says of idle and of waiting is the same, so it stays
-  stays : {A : Type 0} (f : Stage → A) → f idle ≡ f waiting → (h : History) (e : Event) → takes o p h e ≡ false → f (stage-after h) ≡ f (stage-after (h ▷ e))
+  stays : {A : Type 0} (f : Stage → A) → f idle ≡ f waiting → (h : History) (e : Event) → takes o p h e ≡ false
+      → f (stage-after h) ≡ f (stage-after (h ▷ e))
   unfolding after
   stays f i h e t = ⊎-elim (λ s. ap f (sym s)) (λ s. ap f (s .0) ∙ i ∙ ap f (sym (s .1))) (untaken o (after o h) p e t)
 
-  pub waits-shown : (h : History) → waits-on o p h ≡ waiting-ballot o (stage-after h)
+  pub waits-shown : (h : History) → waits-on o p h ≡ awaited o (stage-after h)
   unfolding waits-on after
   waits-shown start = refl
   waits-shown (h ▷ e) =
@@ -229,10 +225,10 @@ module _ (o : Opening) (p : ℕ) where
       (λ t.
       ap (λ (b : Bool). cond b (ballot-at o (stage-after h)) (waits-on o p h)) t
       ∙ waits-shown h
-      ∙ stays (waiting-ballot o) refl h e t)
+      ∙ stays (awaited o) refl h e t)
 
-  pub voted-shown : (h : History) → voted-in o p h ≡ up-to (votes o (stage-after h))
-  unfolding voted-in after up-to
+  pub voted-shown : (h : History) → voted-in o p h ≡ first-ballots (votes o (stage-after h))
+  unfolding voted-in after first-ballots
   voted-shown start = refl
   voted-shown (h ▷ e) =
       by-bool (takes o p h e)
@@ -243,14 +239,16 @@ module _ (o : Opening) (p : ℕ) where
       ap (λ (b : Bool). voted-in o p h ++ listed b (ballot-at o (stage-after h))) t
       ∙ append-nil (voted-in o p h)
       ∙ voted-shown h
-      ∙ ap up-to (stays (votes o) refl h e t))
+      ∙ ap first-ballots (stays (votes o) refl h e t))
 
   -- the ballot that an accepted STEP of p had waited on is answered
-  waited-after : (h : History) (e : Event) → takes o p h e ≡ true → (b : ℕ) → waiting-ballot o (stage-after h) ≡ some b → answered (after o h .answer-of b) ≡ true
+  waited-after : (h : History) (e : Event) → takes o p h e ≡ true → (b : ℕ) → awaited o (stage-after h) ≡ some b
+      → answered (after o h .answer-of b) ≡ true
   waited-after h e t b w =
       waited-answered o (after o h) p (stage-after h) b w (step-accepted o (after o h) p (taken-after h e t .accepted) .stage)
 
-  adds-below : (x : Option ℕ) (f : ℕ → Option Bool) (m m' : ℕ) → Adds x m m' → ((b : ℕ) → x ≡ some b → answered (f b) ≡ true) → ((i : ℕ) → i < m → answered (f i) ≡ true) → (i : ℕ) → i < m' → answered (f i) ≡ true
+  adds-below : (x : Option ℕ) (f : ℕ → Option Bool) (m m' : ℕ) → Adds x m m' → ((b : ℕ) → x ≡ some b → answered (f b) ≡ true)
+      → ((i : ℕ) → i < m → answered (f i) ≡ true) → (i : ℕ) → i < m' → answered (f i) ≡ true
   adds-below none f m m' e a old i l = old i (subst (λ (y : ℕ). i < y) e l)
   adds-below (some b) f m m' e a old i l =
       below-suc i m (subst (λ (y : ℕ). i < y) (e .1) l) (old i) (λ q. subst (λ (y : ℕ). answered (f y) ≡ true) (e .0 ∙ sym q) (a b refl))
@@ -263,7 +261,7 @@ module _ (o : Opening) (p : ℕ) where
       by-bool (takes o p h e)
       (λ t.
       subst (λ (f : ℕ → Option Bool). answered (f i) ≡ true) (sym (taken-answers o (after o h) p e (taken-after h e t)))
-      (adds-below (waiting-ballot o (stage-after h)) (after o h .answer-of) _ _ (moves-after h e t .answers) (waited-after h e t) (taken-answered h) i l))
+      (adds-below (awaited o (stage-after h)) (after o h .answer-of) _ _ (moves-after h e t .answers) (waited-after h e t) (taken-answered h) i l))
       (λ t.
       let a = some-of _ (taken-answered h i (subst (λ (y : ℕ). i < y) (sym (stays (answers-count o) refl h e t)) l)) in
       ap answered (next-kept o (after o h) (reached o h) e .grows .answers i (a .0) (a .1)))
@@ -286,7 +284,7 @@ module _ (o : Opening) (p : ℕ) where
           ap₂ (λ (l : List (ℕ × Bool)) (b : Bool). l ++ listed b (with-answer (waits-on o p h) (first-answer o h))) ih t
           ∙ ap₂ (λ (w : Option ℕ) (a : ℕ → Option Bool). answers-up-to f (answers-count o g) ++ listed true (with-answer w a)) (waits-shown h)
           (fun-ext (first-answer-shown o h))
-          ∙ adds-answer (waiting-ballot o g) f _ _ (waited-after h e t) (moves-after h e t .answers)
+          ∙ adds-answer (awaited o g) f _ _ (waited-after h e t) (moves-after h e t .answers)
           ∙ ap (λ (a : ℕ → Option Bool). answers-up-to a (answers-count o (stage-after (h ▷ e)))) (sym (taken-answers o (after o h) p e (taken-after h e t)))
 
       no-case : takes o p h e ≡ false → answers-taken o p h ≡ answers-up-to f (answers-count o g)

@@ -79,6 +79,6 @@ module _ (o : Opening) where
 -- Demand 2 about the play: every accepted opening, both rules, every list of events whose claims are claims.
 pub record Demand2 : Type 0 where
   pub holds : (o : Opening) → Accepts o → (h : History) → Claims-fit h → Demand2-of o h
-  -- the events leave out nothing that may happen, and a labelled step has one outcome
+  -- the events leave out nothing that may happen, and a labelled step has one outcome (a step is computed, so this is plain)
   pub every-label : (l : Label) → (e : Event) × (label-of e ≡ some l)
   pub one-outcome : (o : Opening) (x y z : Figure-state o) (e : Event) → Step o x e y → Step o x e z → y ≡ z

@@ -2,7 +2,7 @@
 -- another number; and that demand 3's bounds are met exactly. Assumes nothing.
 use Prim.Native.Nat.{ℕ}
 use mathlib.Core.Path.{_≡_}
-use Rattle.consensus.specs.Events.{Event, claim, deliver, step, answer, History, start, _▷_, Rule, byStation, byClaim, Opening}
+use Rattle.consensus.specs.Events.{Event, claim, deliver, step, lose, answer, History, start, _▷_, Rule, byStation, byClaim, Opening}
 use Rattle.consensus.specs.Rules.{number, after}
 use Rattle.consensus.specs.Words.{Supplied-steps}
 
@@ -57,6 +57,17 @@ lone-by-station = start ▷ claim 0 7 ▷ deliver 0 0 ▷ step 0 ▷ step 0 ▷ 
 abbrev pub lone-by-claim : History
 lone-by-claim = start ▷ claim 0 0 ▷ deliver 0 0 ▷ step 0 ▷ step 0 ▷ answer 0 0 ▷ step 0 ▷ step 0 ▷ step 0 ▷ answer 1 1 ▷ step 0
 
+-- a claim that nobody holds need not be held: station 1 put one in and was lost, and the five steps of station 0 are supplied all the same
+abbrev pub beside-a-lost-claim : History
+beside-a-lost-claim =
+    start ▷ claim 0 7 ▷ claim 1 9 ▷ deliver 0 0 ▷ lose 1 ▷ step 0 ▷ step 0 ▷ answer 0 0 ▷ step 0 ▷ step 0 ▷ step 0
+
+-- station 1 holds its own claim and station 0 lacks it, so the step of station 0 is not supplied
+abbrev pub lacking-a-held-claim : History
+lacking-a-held-claim = start ▷ claim 0 7 ▷ claim 1 9 ▷ deliver 0 0 ▷ deliver 1 1 ▷ step 0
+
 pub record Bounds-met : Type 0 where
   pub by-station : Supplied-steps (opening 2 byStation) 0 5 lone-by-station
   pub by-claim : Supplied-steps (opening 1 byClaim) 0 6 lone-by-claim
+  pub nobody-holds : Supplied-steps (opening 2 byStation) 0 5 beside-a-lost-claim
+  pub somebody-holds : Supplied-steps (opening 2 byStation) 0 0 lacking-a-held-claim

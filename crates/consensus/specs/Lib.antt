@@ -3,6 +3,7 @@
 --     State       what the play keeps of each station and each ballot
 --     Rules       what each event is refused for, and what it does (document 01)
 --     Words       the words of demand 3, read off a list of events
+--     Told        the words are what the play's state shows
 --     Demand3     demand 3 about the play
 --     Figure      one process of a figure: a line, and an event made of lines
 --     Figure1     the paper's figure 1, line by line
@@ -16,6 +17,7 @@ pub mod Events
 pub mod State
 pub mod Rules
 pub mod Words
+pub mod Told
 pub mod Demand3
 pub mod Figure
 pub mod Figure1

@@ -57,7 +57,7 @@ refuse false number rest = rest
 abbrev pub no-station : Opening → ℕ → Bool
 no-station o s = not (ltb s (o .count))
 
--- awaiting: an unanswered ballot is 8; taking answer 0 from the last ballot is 42
+-- 8 was tested before: only taking answer 0 from the last ballot is refused, with 42
 abbrev pub last-refusal : Opening → Option Bool → ℕ → ℕ
 last-refusal o none b = 0
 last-refusal o (some true) b = 0

@@ -1,4 +1,7 @@
--- What may happen in the system (paper 000, section 2), and the runs of a figure over a list of events. Assumes nothing.
+-- What may happen in the system (paper 000, section 2), and the runs of a figure over a list of events.
+-- Kept: uniform integrity of the broadcast; validity and uniform agreement of the binary instances. Left out: validity and uniform agreement
+-- of the broadcast and termination of the instances, which promise that something happens eventually; demand 3's word "supplied" stands
+-- in their place. Assumes nothing.
 use Prim.Native.Nat.{ℕ}
 use mathlib.Core.Bool.{Bool, true, false, not, _&&_}
 use mathlib.Core.Option.{Option, none, some}

@@ -5,7 +5,7 @@ use mathlib.Core.Bool.{Bool, true, false, cond}
 use mathlib.Core.Option.{Option, none, some}
 use lib.Dec.{eqb}
 
--- The stages of document 01. Past waiting a station has a cursor j, a round k and a word d, in this order;
+-- The stages of document 01. Between waiting and decided a station has a cursor j, a round k and a word d, in this order;
 -- `finish-` are the two stages of the finish ballot. A decided station has its claim and the round it ended in.
 pub data Stage : Type 0 where
   idle waiting : Stage

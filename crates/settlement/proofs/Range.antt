@@ -14,7 +14,6 @@ use Rattle.consensus.specs.Events.{step}
 use Rattle.consensus.specs.Rules.{any-below}
 use Rattle.consensus.proofs.Basics.{by-bool, no-clash, refused-not, not-false→true, or-false, any-none}
 use Rattle.settlement.specs.declared.record.Stage.{Stage}
-use Rattle.settlement.specs.declared.record.Stage.the-variants.{Idle, Waiting, Voting, Awaiting, Seeking, FinishVoting, FinishAwaiting, Decided}
 use Rattle.settlement.specs.declared.record.Station.{Station}
 use Rattle.settlement.specs.declared.record.Settlement.{Settlement}
 use Rattle.settlement.specs.Record.{stationEntries, entry, by-station, no-station}
@@ -39,14 +38,7 @@ none-of-four a b c d h =
     (abc .0, abc .1, abc .2, or-false (a || b || c) d h .1)
 
 acting-past : (g : Stage) → (in-round g || on-finish g) ≡ true → past-waiting g ≡ true
-acting-past Idle h = h
-acting-past Waiting h = h
-acting-past Voting h = refl
-acting-past Awaiting h = refl
-acting-past Seeking h = refl
-acting-past FinishVoting h = refl
-acting-past FinishAwaiting h = refl
-acting-past Decided h = refl
+acting-past g h = rw h
 
 -- the clauses of the record test, each unmet
 pub record Sound (r : Settlement) : Type 0 where
@@ -62,7 +54,10 @@ pub record Sound-station (n rule : ℕ) (t : Station) : Type 0 where
 
 pub sound : (r : Settlement) → fault r ≡ false → Sound r
 unfolding fault
-sound r h = let none = none-of-three (ltb stationEntries (r .count)) (not (eqb (r .rule) 1 || eqb (r .rule) 2)) (any-below (r .count) (fault-at r)) h in record { few = none .0; rule = none .1; stations = none .2 }
+sound r h =
+    let none =
+    none-of-three (ltb stationEntries (r .count)) (not (eqb (r .rule) 1 || eqb (r .rule) 2)) (any-below (r .count) (fault-at r)) h in
+    record { few = none .0; rule = none .1; stations = none .2 }
 
 pub sound-station : (n rule : ℕ) (t : Station) → station-fault n rule t ≡ false → Sound-station n rule t
 unfolding station-fault
@@ -93,7 +88,9 @@ module _ (r : Settlement) (passes : fault r ≡ false) where
     no-finish-by-station rule = unless _ _ (clauses .finish) rule
 
     pub round-by-claim : by-station r ≡ false → past-waiting (entry r s .stage) ≡ true → entry r s .round < claimBits
-    round-by-claim rule stage = leb-false _ _ (unless (eqb (r .rule) 2 && past-waiting (entry r s .stage)) _ (clauses .late) (rw (other _ _ some-rule rule, stage)))
+    round-by-claim rule stage =
+        leb-false _ _
+        (unless (eqb (r .rule) 2 && past-waiting (entry r s .stage)) _ (clauses .late) (rw (other _ _ some-rule rule, stage)))
 
     pub round-below : (in-round (entry r s .stage) || on-finish (entry r s .stage)) ≡ true → entry r s .round < claimBits
     round-below acting =

@@ -5,14 +5,15 @@ use mathlib.Core.Path.{_≡_}
 use mathlib.Core.Logic.{_↔_}
 use mathlib.Core.Bool.{true, false}
 use lib.ListN.{length}
-use Rattle.consensus.specs.Events.{Event, History, Opening, Accepts}
+use Rattle.consensus.specs.Events.{Event, claim, deliver, step, lose, answer, History, Opening, Accepts}
+use Rattle.consensus.specs.State.{State}
 use Rattle.consensus.specs.Rules.{number, after}
-use Rattle.consensus.specs.Words.{Claims-fit, Decided, voted-in}
+use Rattle.consensus.specs.Words.{Beginning, Fitting, Claims-fit, Put-in, Lost, Decided, Supplied, voted-in}
 use Rattle.consensus.specs.Demand2.{Figure-state, Shows, Step, figure-after}
 use Rattle.consensus.specs.Demand3.{Demand3-of}
-use Rattle.settlement.specs.declared.record.Standing.{Standing}
+use Rattle.settlement.specs.declared.record.Settlement.{Settlement}
 use Rattle.settlement.specs.Fault.{fault}
-use Rattle.settlement.specs.Events.{opened, played}
+use Rattle.settlement.specs.Events.{blank, opened, played}
 use Rattle.settlement.specs.Look.{turned-away, looked}
 use Rattle.settlement.specs.Link.{rule-number, record-after, Shows-play}
 
@@ -25,29 +26,53 @@ module _ (o : Opening) (h : History) where
     pub look-undecided : (s : ℕ) → s < o .count → ((v : ℕ) → Decided o s v h → ⊥)
         → looked (record-after o h) s ≡ record { number = 0; decided = false; claim = 0; votes = length (voted-in o s h) }
     pub look-nobody : (s : ℕ) → o .count ≤ s → looked (record-after o h) s ≡ turned-away 1
+    -- "LOOK says so exactly then"
+    pub look-exactly : (s : ℕ) → (looked (record-after o h) s .decided ≡ true) ↔ ((v : ℕ) × Decided o s v h)
 
   -- "No record reached from OPEN meets 42."
   pub record Sound : Type 0 where
     pub no-fault : fault (record-after o h) ≡ false
     pub no-42 : (e : Event) → played (record-after o h) e .number ≡ 42 → ⊥
 
-  -- Demand 2: an event is accepted exactly where the figure allows that step, and the record shows where the figure stands.
+  -- the record shows where the figure stands: it shows a state of the play, which the figure shows
+  abbrev pub Shows-figure : Settlement → Figure-state o → Type 0
+  Shows-figure r x = (st : State) × Shows-play o r st × Shows o st x
+
+  -- Demand 2: "each accepted event does one step of Zhang and Chen's figure 1 or figure 2, and each step those figures allow in that state is
+  -- accepted"
   pub record Demand2-of-records : Type 0 where
-    pub accepted : (e : Event) → (played (record-after o h) e .number ≡ 0) ↔ ((y : Figure-state o) × Step o (figure-after o h) e y)
-    pub record-shows : Shows-play o (record-after o h) (after o h)
-    pub play-shows : Shows o (after o h) (figure-after o h)
+    pub shown : Shows-figure (record-after o h) (figure-after o h)
+    pub accepted : (e : Event) → Fitting e → played (record-after o h) e .number ≡ 0
+        → (y : Figure-state o) × Step o (figure-after o h) e y × Shows-figure (played (record-after o h) e .settlement) y
+    pub allowed : (e : Event) → Fitting e → (y : Figure-state o) → Step o (figure-after o h) e y
+        → (played (record-after o h) e .number ≡ 0) × Shows-figure (played (record-after o h) e .settlement) y
 
   -- Demand 3: the words are the play's, and the operations' numbers and answers are the play's too.
   pub record Demand3-of-records : Type 0 where
     pub told : Told
     pub demand : Demand3-of o h
+    -- "A P that has claimed, is not lost and is undecided is never refused one"
+    pub never-refused : (g : History) → Beginning g h → (p v : ℕ) → Put-in o p v g → (Lost o p g → ⊥) → ((w : ℕ) → Decided o p w g → ⊥)
+        → Supplied o p g → played (record-after o g) (step p) .number ≡ 0
     -- so two stations that LOOK says have decided show one claim and the same number of votes
     pub looks-agree : (p q : ℕ) → looked (record-after o h) p .decided ≡ true → looked (record-after o h) q .decided ≡ true
         → looked (record-after o h) p ≡ looked (record-after o h) q
 
+-- the number that each event has on the blank settlement
+abbrev pub blank-number : Event → ℕ
+blank-number (claim s v) = 1
+blank-number (deliver t s) = 1
+blank-number (step s) = 1
+blank-number (lose s) = 1
+blank-number (answer b a) = 9
+
 -- Every accepted OPEN, both rules, every list of events whose claims are claims.
 pub record Demands : Type 0 where
+  -- OPEN accepts these openings, and no others
   pub opens : (o : Opening) → Accepts o → opened (o .count) (rule-number (o .rule)) .number ≡ 0
+  pub opens-only : (n rule : ℕ) → opened n rule .number ≡ 0 → (o : Opening) × Accepts o × (o .count ≡ n) × (rule-number (o .rule) ≡ rule)
+  -- on the blank settlement every event is refused, and not with 42
+  pub blank-refuses : (e : Event) → played blank e ≡ record { number = blank-number e; settlement = blank }
   pub sound : (o : Opening) → Accepts o → (h : History) → Claims-fit h → Sound o h
   pub demand2 : (o : Opening) → Accepts o → (h : History) → Claims-fit h → Demand2-of-records o h
   pub demand3 : (o : Opening) → Accepts o → (h : History) → Claims-fit h → Demand3-of-records o h

@@ -9,7 +9,7 @@ use Rattle.settlement.specs.declared.record.Stage.{Stage}
 use Rattle.settlement.specs.declared.record.Stage.the-variants.{Idle, Waiting, Voting, Awaiting, Seeking, FinishVoting, FinishAwaiting, Decided}
 use Rattle.settlement.specs.declared.record.Station.{Station}
 use Rattle.settlement.specs.declared.record.Settlement.{Settlement}
-use Rattle.settlement.specs.Record.{stationEntries, entry}
+use Rattle.settlement.specs.Record.{stationEntries, entry, is-decided}
 
 -- a voting, awaiting or seeking station
 abbrev pub in-round : Stage → Bool
@@ -33,16 +33,9 @@ on-finish FinishVoting = true
 on-finish FinishAwaiting = true
 on-finish Decided = false
 
--- a station past waiting
+-- a station past waiting: in a round, on a finish ballot or decided
 abbrev pub past-waiting : Stage → Bool
-past-waiting Idle = false
-past-waiting Waiting = false
-past-waiting Voting = true
-past-waiting Awaiting = true
-past-waiting Seeking = true
-past-waiting FinishVoting = true
-past-waiting FinishAwaiting = true
-past-waiting Decided = true
+past-waiting g = in-round g || on-finish g || is-decided g
 
 -- "a station below n whose cursor is n or more;
 -- a voting, awaiting or seeking station whose round is R or more under rule 1;

@@ -2,13 +2,14 @@
 --     Record    entries read and replaced, what a record says, changed entries
 --     Fault     the record test, 42
 --     Tests     what each operation is turned away for, in order
---     Range     what the functions of STEP rely on
+--     Range     what the functions of STEP rely on (a reader may skip it)
 --     Step      what one STEP does
 --     Events    OPEN and the five events, whole
 --     Look      LOOK, whole
 --     Demand1   demand 1, as one law over every event and every record
 --     Link      the records that a list of events leads to, beside the play
 --     Demands   demands 2 and 3 about the operations, over whole lists
+--     Edges     the edges of the record test, as one list
 pub mod Record
 pub mod Fault
 pub mod Tests
@@ -19,3 +20,4 @@ pub mod Look
 pub mod Demand1
 pub mod Link
 pub mod Demands
+pub mod Edges

@@ -8,7 +8,7 @@ use bits::mask::mask_with;
 use bits::word::Word;
 
 // The claim v put in.
-pub fn claiming(t: Station, v: Word) -> Station
+pub(crate) fn claiming(t: Station, v: Word) -> Station
     ensures { λ x. ⌜ x ≡ claiming v t ⌝ }
 {
     Station {
@@ -24,7 +24,7 @@ pub fn claiming(t: Station, v: Word) -> Station
 }
 
 // The claim of station i held.
-pub fn holding(t: Station, i: u8) -> Station
+pub(crate) fn holding(t: Station, i: u8) -> Station
     ensures { λ x. ⌜ x ≡ holding i t ⌝ }
 {
     let mut next = t;
@@ -32,7 +32,7 @@ pub fn holding(t: Station, i: u8) -> Station
     next
 }
 
-pub fn losing(t: Station) -> Station
+pub(crate) fn losing(t: Station) -> Station
     ensures { λ x. ⌜ x ≡ losing t ⌝ }
 {
     let mut next = t;
@@ -41,7 +41,7 @@ pub fn losing(t: Station) -> Station
 }
 
 // What STEP changes: the stage g, the cursor j, the round k, the word d and the decision v.
-pub fn moved(t: Station, g: Stage, j: u8, k: u8, d: Word, v: Word) -> Station
+pub(crate) fn moved(t: Station, g: Stage, j: u8, k: u8, d: Word, v: Word) -> Station
     ensures { λ x. ⌜ x ≡ moved g j k d v t ⌝ }
 {
     Station {
@@ -57,7 +57,7 @@ pub fn moved(t: Station, g: Stage, j: u8, k: u8, d: Word, v: Word) -> Station
 }
 
 // Bit a cast.
-pub fn casting(t: Ballot, a: bool) -> Ballot
+pub(crate) fn casting(t: Ballot, a: bool) -> Ballot
     ensures { λ x. ⌜ x ≡ casting a t ⌝ }
 {
     let mut next = t;
@@ -70,7 +70,7 @@ pub fn casting(t: Ballot, a: bool) -> Ballot
 }
 
 // Bit a answered.
-pub fn answering(t: Ballot, a: bool) -> Ballot
+pub(crate) fn answering(t: Ballot, a: bool) -> Ballot
     ensures { λ x. ⌜ x ≡ answering a t ⌝ }
 {
     Ballot {

@@ -3,6 +3,7 @@ ghost use mathlib.Core.Path.{_≡_};
 ghost use Rattle.consensus.specs.Rules.{any-below};
 ghost use Rattle.settlement.specs.Fault.{in-round, on-finish, past-waiting, station-fault, fault-at, fault};
 use crate::entry::station_at;
+use crate::reading::is_decided;
 use crate::record::STATION_ENTRIES;
 use crate::record::Settlement;
 use crate::record::Stage;
@@ -11,7 +12,7 @@ use bits::logarithm::ceil_log2;
 use bits::word::WORD_BITS;
 
 // Voting, awaiting or seeking.
-pub fn in_round(stage: Stage) -> bool
+pub(crate) fn in_round(stage: Stage) -> bool
     ensures { λ x. ⌜ x ≡ in-round stage ⌝ }
 {
     match stage {
@@ -27,7 +28,7 @@ pub fn in_round(stage: Stage) -> bool
 }
 
 // Voting or awaiting on a finish ballot.
-pub fn on_finish(stage: Stage) -> bool
+pub(crate) fn on_finish(stage: Stage) -> bool
     ensures { λ x. ⌜ x ≡ on-finish stage ⌝ }
 {
     match stage {
@@ -42,23 +43,15 @@ pub fn on_finish(stage: Stage) -> bool
     }
 }
 
-pub fn past_waiting(stage: Stage) -> bool
+// In a round, on a finish ballot or decided.
+pub(crate) fn past_waiting(stage: Stage) -> bool
     ensures { λ x. ⌜ x ≡ past-waiting stage ⌝ }
 {
-    match stage {
-        Stage::Idle => false,
-        Stage::Waiting => false,
-        Stage::Voting => true,
-        Stage::Awaiting => true,
-        Stage::Seeking => true,
-        Stage::FinishVoting => true,
-        Stage::FinishAwaiting => true,
-        Stage::Decided => true,
-    }
+    in_round(stage) | on_finish(stage) | is_decided(stage)
 }
 
 // One station's test, in a record of n stations.
-pub fn station_faulty(n: u8, rule: u8, t: Station) -> bool
+pub(crate) fn station_faulty(n: u8, rule: u8, t: Station) -> bool
     ensures { λ x. ⌜ x ≡ station-fault n rule t ⌝ }
 {
     let stage = t.stage;
@@ -69,7 +62,7 @@ pub fn station_faulty(n: u8, rule: u8, t: Station) -> bool
 }
 
 // Whether a station below n has a fault.
-pub fn some_station_faulty(r: Settlement) -> bool
+pub(crate) fn some_station_faulty(r: Settlement) -> bool
     ensures { λ x. ⌜ x ≡ any-below (r .count) (fault-at r) ⌝ }
 {
     let mut found = false;
@@ -81,7 +74,7 @@ pub fn some_station_faulty(r: Settlement) -> bool
     found
 }
 
-pub fn faulty(r: Settlement) -> bool
+pub(crate) fn faulty(r: Settlement) -> bool
     ensures { λ x. ⌜ x ≡ fault r ⌝ }
 {
     (STATION_ENTRIES < r.count) | !((r.rule == 1) | (r.rule == 2)) | some_station_faulty(r)

@@ -6,6 +6,7 @@ pub mod claim;
 pub mod deliver;
 pub mod entry;
 mod fault;
+pub mod look;
 pub mod lose;
 pub mod open;
 pub mod play;

@@ -8,21 +8,21 @@ use crate::record::Outcome;
 use crate::record::Settlement;
 
 // The number where the test is met, else what the later tests give.
-pub fn refuse(met: bool, number: u8, rest: u8) -> u8
+pub(crate) fn refuse(met: bool, number: u8, rest: u8) -> u8
     ensures { λ x. ⌜ x ≡ refuse met number rest ⌝ }
 {
     if met { number } else { rest }
 }
 
 // The record test comes first.
-pub fn record_first(r: Settlement, rest: u8) -> u8
+pub(crate) fn record_first(r: Settlement, rest: u8) -> u8
     ensures { λ x. ⌜ x ≡ refuse (fault r) 42 rest ⌝ }
 {
     refuse(faulty(r), 42, rest)
 }
 
 // Accepted, the next settlement; refused, the very one given.
-pub fn joined(number: u8, next: Settlement, given: Settlement) -> Outcome
+pub(crate) fn joined(number: u8, next: Settlement, given: Settlement) -> Outcome
     ensures { λ x. ⌜ x ≡ outcome number next given ⌝ }
 {
     let accepted = number == 0;

@@ -14,7 +14,7 @@ use bits::mask::mask_has;
 use bits::word::low_bits_agree;
 
 // The next station after j, around the n stations.
-pub fn next_cursor(j: u8, n: u8) -> u8
+pub(crate) fn next_cursor(j: u8, n: u8) -> u8
     requires { ⌜ 0 < n ⌝ }
     ensures { λ x. ⌜ x ≡ (j + 1) % n ⌝ }
 {
@@ -22,7 +22,7 @@ pub fn next_cursor(j: u8, n: u8) -> u8
 }
 
 // Seeking ends at j.
-pub fn found(r: Settlement, t: Station, j: u8) -> Station
+pub(crate) fn found(r: Settlement, t: Station, j: u8) -> Station
     requires { ⌜ t .round < claimBits ⌝ }
     ensures { λ x. ⌜ x ≡ found r t j ⌝ }
 {
@@ -40,7 +40,7 @@ pub fn found(r: Settlement, t: Station, j: u8) -> Station
 }
 
 // The cursor is on j, whose claim fits, or the station goes on seeking.
-pub fn sought(r: Settlement, t: Station, j: u8) -> Station
+pub(crate) fn sought(r: Settlement, t: Station, j: u8) -> Station
     requires { ⌜ t .round < claimBits ⌝ }
     ensures { λ x. ⌜ x ≡ sought r t j ⌝ }
 {

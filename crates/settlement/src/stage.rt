@@ -29,7 +29,7 @@ fn unanswered(r: Settlement, b: usize) -> bool
 }
 
 // Whether station s waits for its own claim or for an answer.
-pub fn must_wait(r: Settlement, s: u8, t: Station) -> bool
+pub(crate) fn must_wait(r: Settlement, s: u8, t: Station) -> bool
     ensures { λ x. ⌜ x ≡ must-wait r s t (t .stage) ⌝ }
 {
     let stage = t.stage;
@@ -46,7 +46,7 @@ pub fn must_wait(r: Settlement, s: u8, t: Station) -> bool
 }
 
 // Whether the station takes answer 0 from the last ballot.
-pub fn takes_last_no(r: Settlement, t: Station) -> bool
+pub(crate) fn takes_last_no(r: Settlement, t: Station) -> bool
     ensures { λ x. ⌜ x ≡ takes-last-no r t (t .stage) ⌝ }
 {
     let b = finish_ballot(t.round);
@@ -65,7 +65,7 @@ pub fn takes_last_no(r: Settlement, t: Station) -> bool
 }
 
 // The first step: the cursor on the station itself. A lone station by station decides at once.
-pub fn started(r: Settlement, s: u8, t: Station) -> Station
+pub(crate) fn started(r: Settlement, s: u8, t: Station) -> Station
     ensures { λ x. ⌜ x ≡ started r s t ⌝ }
 {
     let alone = (r.rule == 1) & (r.count == 1);
@@ -76,7 +76,7 @@ pub fn started(r: Settlement, s: u8, t: Station) -> Station
 }
 
 // Station s casts bit a in ballot b, and goes to the stage g.
-pub fn voted(r: Settlement, s: u8, t: Station, g: Stage, b: usize, a: bool) -> Settlement
+pub(crate) fn voted(r: Settlement, s: u8, t: Station, g: Stage, b: usize, a: bool) -> Settlement
     ensures { λ x. ⌜ x ≡ voted r s t g b a ⌝ }
 {
     let next = moved(t, g, t.cursor, t.round, t.word, t.decision);
@@ -84,7 +84,7 @@ pub fn voted(r: Settlement, s: u8, t: Station, g: Stage, b: usize, a: bool) -> S
 }
 
 // A bit answer becomes bit k of the word.
-pub fn bit_taken(r: Settlement, t: Station) -> Station
+pub(crate) fn bit_taken(r: Settlement, t: Station) -> Station
     requires { ⌜ t .round < claimBits ⌝ }
     ensures { λ x. ⌜ x ≡ bit-taken r t ⌝ }
 {
@@ -94,7 +94,7 @@ pub fn bit_taken(r: Settlement, t: Station) -> Station
 }
 
 // A finish answer 1 decides the word, and 0 begins the next round.
-pub fn finish_taken(r: Settlement, t: Station) -> Station
+pub(crate) fn finish_taken(r: Settlement, t: Station) -> Station
     requires { ⌜ t .round < claimBits ⌝ }
     ensures { λ x. ⌜ x ≡ finish-taken r t ⌝ }
 {

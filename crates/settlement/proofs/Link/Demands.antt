@@ -1,27 +1,29 @@
 -- Demands 2 and 3 about the operations: the record is tied to the play after every list, so numbers are the same, and LOOK reads off the entry
 -- what the list tells of the station. Assumes nothing.
-use Prim.Native.Nat.{ℕ, zero, suc, _+_, _*_, _<_, _≤_}
+use Prim.Native.Nat.{ℕ, zero, suc, _+_, _*_, _<_, _≤_, zero-le}
 use mathlib.Core.Path.{_≡_, refl, sym, subst, _∙_, ap, ap₂}
-use mathlib.Core.Logic.{_↔_}
+use mathlib.Core.Logic.{_↔_, _⊎_, inl, inr}
 use mathlib.Core.Bool.{Bool, true, false, cond, not, _||_}
 use mathlib.Core.Option.{Option, none, some, Option·none-ne-some, Option·some-injective}
 use mathlib.Core.List.{List}
 use native.Mathlib.Omega.{arith}
-use native.Mathlib.Nat.{not-le-of-lt}
+use native.Mathlib.Nat.{pos-of-ne-zero}
 use native.Mathlib.Numerals.{add-one}
 use lib.Dec.{eqb, ltb}
 use lib.ListN.{length, getD, replicate, length-replicate}
-use borrow.Author.Tests.{eqb-true, ne-eqb, le-ltb, lt-ltb, ltb-true, ltb-false}
+use borrow.Author.Tests.{eqb-true, eqb-false, ne-eqb, le-ltb, lt-ltb, ltb-true, ltb-false}
 use Rattle.bits.specs.Log.{ceilLog2}
 use Rattle.bits.proofs.Masks.{member-none}
-use Rattle.consensus.specs.Events.{Event, History, start, _▷_, Rule, byStation, byClaim, Opening, Accepts}
+use Rattle.consensus.specs.Events.{Event, claim, deliver, step, lose, answer, History, start, _▷_, Rule, byStation, byClaim, Opening, Accepts}
 use Rattle.consensus.specs.State as play
 use Rattle.consensus.specs.Rules as rules
 use Rattle.consensus.specs.Rules.{refuse, any-below}
-use Rattle.consensus.specs.Words.{decision, voted-in, Decided, Claims-fit}
-use Rattle.consensus.proofs.Basics.{by-bool, no-clash}
+use Rattle.consensus.specs.Words.{decision, voted-in, Decided, Fitting, Claims-fit}
+use Rattle.consensus.proofs.Basics.{by-bool, no-clash, refused-not, not-false→true, or-false}
 use Rattle.consensus.proofs.Invariant as invariant
-use Rattle.consensus.proofs.Reached.{reached}
+use Rattle.consensus.proofs.Reached.{reached, step-accepted}
+use Rattle.consensus.proofs.Station.{taken}
+use Rattle.consensus.proofs.Longest.{fit-beginning}
 use Rattle.consensus.proofs.Ballots.{Short, round-below}
 use Rattle.consensus.proofs.Told.{stage-after, voted-shown, decided-shown, shown-decided}
 use Rattle.consensus.proofs.Agree.{length-up-to}
@@ -37,8 +39,8 @@ use Rattle.settlement.specs.Fault.{fault}
 use Rattle.settlement.specs.Tests.{first-met, open-tests, look-tests, number}
 use Rattle.settlement.specs.Events.{outcome, fresh, blank, opened, next, played}
 use Rattle.settlement.specs.Look.{votes, standing, turned-away, looked}
-use Rattle.settlement.specs.Link.{rule-number, record-after, stage-of, answer-in}
-use Rattle.settlement.specs.Demands.{Told, Sound, Demand2-of-records, Demand3-of-records, Demands}
+use Rattle.settlement.specs.Link.{rule-number, record-after, stage-of, answer-in, Shows-play}
+use Rattle.settlement.specs.Demands.{Told, Sound, Demand2-of-records, Demand3-of-records, blank-number, Demands}
 use Rattle.settlement.proofs.Link.Linked.{Entry-shows, Linked, linked-shows}
 use Rattle.settlement.proofs.Link.Faultless.{none-below, rule-known, faultless}
 use Rattle.settlement.proofs.Link.Numbers.{bit-ballot-same, number-same}
@@ -53,7 +55,8 @@ open-accepted o a =
     ap₂ (λ (x y : Bool). refuse (x || y) 40 (refuse (not (eqb (rule-number (o .rule)) 1 || eqb (rule-number (o .rule)) 2)) 41 0)) low (le-ltb stationEntries (o .count) (a .not-too-many))
     ∙ ap (λ (x : Bool). refuse x 41 0) (rule-known (o .rule))
 
-opened-fresh : (o : Opening) → Accepts o → opened (o .count) (rule-number (o .rule)) ≡ record { number = 0; settlement = fresh (o .count) (rule-number (o .rule)) }
+opened-fresh : (o : Opening) → Accepts o
+    → opened (o .count) (rule-number (o .rule)) ≡ record { number = 0; settlement = fresh (o .count) (rule-number (o .rule)) }
 unfolding opened outcome
 opened-fresh o a = ap (λ (k : ℕ). outcome k (fresh (o .count) (rule-number (o .rule))) blank) (open-accepted o a)
 
@@ -130,9 +133,16 @@ votes-same-by n q r c e t FinishAwaiting = omega arith
 votes-same-by n q r c e t Has-decided =
     ap₂ (λ (x m : ℕ). cond (eqb x 1) (ceilLog2 m) (2 * t .round + 2)) e c ∙ all-votes q
   where
-    all-votes : (q : Rule) → cond (eqb (rule-number q) 1) (ceilLog2 n) (2 * t .round + 2) ≡ invariant.votes-by q (record { count = n; rule = q }) (play.decided (t .decision) (t .round))
+    all-votes : (q : Rule)
+        → cond (eqb (rule-number q) 1) (ceilLog2 n) (2 * t .round + 2) ≡ invariant.votes-by q (record { count = n; rule = q }) (play.decided (t .decision) (t .round))
     all-votes byStation = refl
     all-votes byClaim = omega arith
+
+-- who has decided is a station
+decided-station : (o : Opening) (s v : ℕ) (h : History) → Decided o s v h → s < o .count
+decided-station o s v start d = absurd d
+decided-station o s v (h ▷ e) (inl d) = decided-station o s v h d
+decided-station o s v (h ▷ e) (inr d) = step-accepted o (rules.after o h) s (taken o (rules.after o h) s e (d .0) .accepted) .station
 
 module _ (o : Opening) (a : Accepts o) (h : History) (f : Claims-fit h) where
   abbrev r : Settlement
@@ -208,9 +218,6 @@ module _ (o : Opening) (a : Accepts o) (h : History) (f : Claims-fit h) where
   unfolding played outcome
   numbers e = number-same o a r (rules.after o h) linked (reached o h) (round-below o h f) e
 
-  told : Told o h
-  told = record { numbers = numbers; look-decided = look-decided; look-undecided = look-undecided; look-nobody = look-outside }
-
   -- LOOK says decided: then the list tells which claim
   decided-by-look : (s : ℕ) → looked r s .decided ≡ true → (v : ℕ) × (s < o .count) × Decided o s v h
   decided-by-look s e =
@@ -225,6 +232,18 @@ module _ (o : Opening) (a : Accepts o) (h : History) (f : Claims-fit h) where
             shown-decided o s (entry r s .decision) h (sym (entry-decision s b) ∙ ap (λ (y : Bool). cond y (some (entry r s .decision)) none) x),
           )
 
+  told : Told o h
+  told = record {
+    numbers = numbers;
+    look-decided = look-decided;
+    look-undecided = look-undecided;
+    look-nobody = look-outside;
+    look-exactly = λ s. (
+      λ e. let x = decided-by-look s e in (x .0, x .2),
+      λ d. ap (λ (x : Standing). x .decided) (look-decided s (d .0) (decided-station o s (d .0) h (d .1)) (d .1)),
+    );
+  }
+
   looks-agree : (p q : ℕ) → looked r p .decided ≡ true → looked r q .decided ≡ true → looked r p ≡ looked r q
   looks-agree p q e g =
       let x = decided-by-look p e in
@@ -237,21 +256,81 @@ module _ (o : Opening) (a : Accepts o) (h : History) (f : Claims-fit h) where
   sound : Sound o h
   sound = record { no-fault = clear; no-42 = λ e z. play-proofs.no-event-42 .holds o h f e (sym (numbers e) ∙ z) }
 
+  -- the record after one more event shows the play's state after it
+  shows-next : (e : Event) → Fitting e → Shows-play o (played r e .settlement) (rules.after o (h ▷ e))
+  unfolding record-after
+  shows-next e fit = linked-shows o (record-after o (h ▷ e)) (rules.after o (h ▷ e)) (linked-after o a (h ▷ e) (f, fit))
+
   demand2 : Demand2-of-records o h
   demand2 =
       let d = figure-proofs.demand2 .holds o a h f in record {
-        accepted = λ e. (
-          λ z. let x = d .accepted e (sym (numbers e) ∙ z) in (x .0, x .1),
-          λ x. numbers e ∙ d .allowed e (x .0) (x .1) .0,
-        );
-        record-shows = linked-shows o r (rules.after o h) linked;
-        play-shows = d .shown;
+        shown = (rules.after o h, linked-shows o r (rules.after o h) linked, d .shown);
+        accepted = λ e fit z.
+            let x = d .accepted e (sym (numbers e) ∙ z) in (x .0, x .1, (rules.after o (h ▷ e), shows-next e fit, x .2));
+        allowed = λ e fit y step.
+            let x = d .allowed e y step in (numbers e ∙ x .0, (rules.after o (h ▷ e), shows-next e fit, x .1));
       }
+
+-- ---- OPEN accepts nothing else, and the blank settlement nothing
+
+known-rule : (rule : ℕ) → not (eqb rule 1 || eqb rule 2) ≡ false → (q : Rule) × (rule-number q ≡ rule)
+known-rule rule e =
+    by-bool (eqb rule 1) (λ x. (byStation, sym (eqb-true rule 1 x)))
+    (λ x. (byClaim, sym (eqb-true rule 2 (not-false→true _ (subst (λ (b : Bool). not (b || eqb rule 2) ≡ false) x e)))))
+
+opens-only : (n rule : ℕ) → opened n rule .number ≡ 0 → (o : Opening) × Accepts o × (o .count ≡ n) × (rule-number (o .rule) ≡ rule)
+unfolding opened outcome first-met
+opens-only n rule e =
+    let x = refused-not (eqb n 0 || ltb stationEntries n) 40 _ refl e in
+    let y = refused-not (not (eqb rule 1 || eqb rule 2)) 41 0 refl (x .1) in
+    let both = or-false (eqb n 0) (ltb stationEntries n) (x .0) in
+    let q = known-rule rule (y .0) in (
+      record { count = n; rule = q .0 },
+      record { some-station = pos-of-ne-zero (eqb-false n 0 (both .0)); not-too-many = ltb-false stationEntries n (both .1) },
+      refl,
+      q .1,
+    )
+
+-- a test that is met gives its number
+met : (t : Bool) (m rest : ℕ) → t ≡ true → refuse t m rest ≡ m
+met t m rest e = ap (λ (b : Bool). refuse b m rest) e
+
+nobody : (s : ℕ) → no-station blank s ≡ true
+nobody s = ap not (le-ltb s 0 zero-le)
+
+blank-number-is : (e : Event) → number blank e ≡ blank-number e
+unfolding number first-met fault any-below
+blank-number-is (claim s v) = met (no-station blank s) 1 _ (nobody s)
+blank-number-is (deliver t s) = met (no-station blank t || no-station blank s) 1 _ (ap (λ (b : Bool). b || no-station blank s) (nobody t))
+blank-number-is (step s) = met (no-station blank s) 1 _ (nobody s)
+blank-number-is (lose s) = met (no-station blank s) 1 _ (nobody s)
+blank-number-is (answer b v) = met (not (ltb b 0)) 9 _ (ap not (le-ltb b 0 zero-le))
+
+blank-refused : (e : Event) → cond (eqb (blank-number e) 0) (next blank e) blank ≡ blank
+blank-refused (claim s v) = refl
+blank-refused (deliver t s) = refl
+blank-refused (step s) = refl
+blank-refused (lose s) = refl
+blank-refused (answer b v) = refl
+
+blank-refuses : (e : Event) → played blank e ≡ record { number = blank-number e; settlement = blank }
+unfolding played outcome
+blank-refuses e = ap (λ (k : ℕ). outcome k (next blank e) blank) (blank-number-is e) ∙ ap (λ (x : Settlement). record { number = blank-number e; settlement = x }) (blank-refused e)
+
+-- ---- all together
 
 pub demands : Demands
 demands = record {
   opens = λ o a. ap (λ x. x .number) (opened-fresh o a);
+  opens-only = opens-only;
+  blank-refuses = blank-refuses;
   sound = sound;
   demand2 = demand2;
-  demand3 = λ o a h f. record { told = told o a h f; demand = play-proofs.demand3 .holds o a h f; looks-agree = looks-agree o a h f };
+  demand3 = λ o a h f. record {
+    told = told o a h f;
+    demand = play-proofs.demand3 .holds o a h f;
+    never-refused = λ g b p v put live undecided x.
+        numbers o a g (fit-beginning g h b f) (step p) ∙ play-proofs.demand3 .holds o a h f .never-refused g b p v put live undecided x;
+    looks-agree = looks-agree o a h f;
+  };
 }

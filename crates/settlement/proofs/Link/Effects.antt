@@ -48,7 +48,8 @@ early-of FinishAwaiting k d e x = no-clash true refl e
 early-of Decided k d e x = no-clash true refl e
 
 -- a station moved by a STEP: stage, cursor, round, word and decision are new
-moved-shows : (n : ℕ) (t : Station) (st : play.State) (s : ℕ) (c : ℕ → Option Bool) → Entry-shows n t (st .station s) → (g : Stage) (j k d v : ℕ) (g' : play.Stage)
+moved-shows : (n : ℕ) (t : Station) (st : play.State) (s : ℕ) (c : ℕ → Option Bool) → Entry-shows n t (st .station s)
+    → (g : Stage) (j k d v : ℕ) (g' : play.Stage)
     → stage-of g j k d v ≡ g' → j < n → Early g k d → Entry-shows n (moved g j k d v t) (part-moved st s g' c)
 moved-shows n t st s c x g j k d v g' e b early = record { stage = e; claim = x .claim; holds = x .holds; lost = x .lost; cursor = b; early = early }
 
@@ -71,7 +72,8 @@ module _ (o : Opening) (a : Accepts o) (r : Settlement) (st : play.State) (l : L
   spelled-same : (j : ℕ) → j < n → spelled r j ≡ rules.spelled o st j
   spelled-same j b = ap (λ (x : ℕ). cond (eqb x 1) j (entry r j .claim)) (l .rule) ∙ spelled-same-by (o .rule) st j _ (l .entries j b .claim)
 
-  claim-effect : (s v : ℕ) → rules.number o st (claim s v) ≡ 0 → Linked o (with-station s (claiming v (entry r s)) r) (play.set-station st s (rules.claiming v (st .station s)))
+  claim-effect : (s v : ℕ) → rules.number o st (claim s v) ≡ 0
+      → Linked o (with-station s (claiming v (entry r s)) r) (play.set-station st s (rules.claiming v (st .station s)))
   claim-effect s v e =
       let c = claim-accepted o st s v e in
       let x = l .entries s (c .station) in
@@ -86,7 +88,8 @@ module _ (o : Opening) (a : Accepts o) (r : Settlement) (st : play.State) (l : L
       })
       refl
 
-  deliver-effect : (t s : ℕ) → rules.number o st (deliver t s) ≡ 0 → Linked o (with-station s (holding t (entry r s)) r) (play.set-station st s (rules.holding t (st .station s)))
+  deliver-effect : (t s : ℕ) → rules.number o st (deliver t s) ≡ 0
+      → Linked o (with-station s (holding t (entry r s)) r) (play.set-station st s (rules.holding t (st .station s)))
   deliver-effect t s e =
       let c = deliver-accepted o st t s e in
       let x = l .entries s (c .station) in
@@ -104,7 +107,8 @@ module _ (o : Opening) (a : Accepts o) (r : Settlement) (st : play.State) (l : L
       })
       refl
 
-  lose-effect : (s : ℕ) → rules.number o st (lose s) ≡ 0 → Linked o (with-station s (losing (entry r s)) r) (play.set-station st s (rules.losing (st .station s)))
+  lose-effect : (s : ℕ) → rules.number o st (lose s) ≡ 0
+      → Linked o (with-station s (losing (entry r s)) r) (play.set-station st s (rules.losing (st .station s)))
   lose-effect s e =
       let c = lose-accepted o st s e in
       let x = l .entries s (c .station) in
@@ -127,12 +131,17 @@ module _ (o : Opening) (a : Accepts o) (r : Settlement) (st : play.State) (l : L
     abbrev Part : play.Stage → Type 0
     Part g = Part-ok o st s g (p .holds) (p .cast)
 
+    -- the entry becomes u where the play's station goes to the stage g
+    abbrev Follows : Station → play.Stage → Type 0
+    Follows u g = Linked o (with-station s u r) (play.set-station st s (play.with-stage g p))
+
     -- the station moves, and nothing is cast
-    moves : (g : Stage) (j k d v : ℕ) (g' : play.Stage) → stage-of g j k d v ≡ g' → j < n → Early g k d → Linked o (with-station s (moved g j k d v t) r) (play.set-station st s (play.with-stage g' p))
+    moves : (g : Stage) (j k d v : ℕ) (g' : play.Stage) → stage-of g j k d v ≡ g' → j < n → Early g k d → Follows (moved g j k d v t) g'
     moves g j k d v g' e b early = own-linked o a r st l s below (moved g j k d v t) (play.with-stage g' p) (moved-shows n t st s (p .cast) x g j k d v g' e b early) refl
 
     -- the station votes
-    votes : (g : Stage) (g' : play.Stage) (b c : ℕ) (y z : Bool) → b ≡ c → y ≡ z → stage-of g (t .cursor) (t .round) (t .word) (t .decision) ≡ g' → Early g (t .round) (t .word)
+    votes : (g : Stage) (g' : play.Stage) (b c : ℕ) (y z : Bool) → b ≡ c → y ≡ z → stage-of g (t .cursor) (t .round) (t .word) (t .decision) ≡ g'
+        → Early g (t .round) (t .word)
         → c < events.ballots o → p .cast c ≡ none → Linked o (voted r s t g b y) (play.set-station st s (rules.casting c z g' p))
     unfolding voted
     votes g g' b c y z q w e early i unvoted =
@@ -176,67 +185,73 @@ module _ (o : Opening) (a : Accepts o) (r : Settlement) (st : play.State) (l : L
         (y .uncast _ (le-refl _))
 
     -- a choice between two moves is made alike on both sides
-    choice : (b : Bool) (u w : Station) (g h : play.Stage) → (b ≡ true → Linked o (with-station s u r) (play.set-station st s (play.with-stage g p)))
-        → (b ≡ false → Linked o (with-station s w r) (play.set-station st s (play.with-stage h p)))
-        → Linked o (with-station s (cond b u w) r) (play.set-station st s (play.with-stage (cond b g h) p))
+    choice : (b : Bool) (u w : Station) (g h : play.Stage) → (b ≡ true → Follows u g)
+        → (b ≡ false → Follows w h)
+        → Follows (cond b u w) (cond b g h)
     choice true u w g h f k = f refl
     choice false u w g h f k = k refl
 
+    -- the entry that the first STEP leads to, under rule m and with c stations
+    abbrev first-entry : ℕ → ℕ → Station
+    first-entry m c =
+        cond (eqb m 1 && eqb c 1) (moved Decided s (t .round) (t .word) (t .claim) t) (moved Voting s (t .round) (t .word) (t .decision) t)
+
+    abbrev first-of : Rule → play.Stage
+    first-of q = rules.first-stage q n s (p .own-claim)
+
     first-same : (q : Rule) → t .stage ≡ Waiting
-        → Linked o (with-station s (cond (eqb (rule-number q) 1 && eqb n 1) (moved Decided s (t .round) (t .word) (t .claim) t) (moved Voting s (t .round) (t .word) (t .decision) t)) r)
-        (play.set-station st s (play.with-stage (rules.first-stage q n s (p .own-claim)) p))
+        → Follows (first-entry (rule-number q) n) (first-of q)
     first-same q e = go q
       where
         early : (t .round ≡ 0) × (t .word ≡ 0)
         early = subst (λ (g : Stage). Early g (t .round) (t .word)) e (x .early)
 
-        decides : Linked o (with-station s (moved Decided s (t .round) (t .word) (t .claim) t) r) (play.set-station st s (play.with-stage (play.decided (p .own-claim) 0) p))
+        decides : Follows (moved Decided s (t .round) (t .word) (t .claim) t) (play.decided (p .own-claim) 0)
         decides = moves Decided s (t .round) (t .word) (t .claim) (play.decided (p .own-claim) 0) (ap₂ play.decided (x .claim) (early .0)) below tt
 
-        begins : Linked o (with-station s (moved Voting s (t .round) (t .word) (t .decision) t) r) (play.set-station st s (play.with-stage (play.voting s 0 0) p))
+        begins : Follows (moved Voting s (t .round) (t .word) (t .decision) t) (play.voting s 0 0)
         begins = moves Voting s (t .round) (t .word) (t .decision) (play.voting s 0 0) (ap₂ (play.voting s) (early .0) (early .1)) below tt
 
         go : (q : Rule)
-            → Linked o (with-station s (cond (eqb (rule-number q) 1 && eqb n 1) (moved Decided s (t .round) (t .word) (t .claim) t) (moved Voting s (t .round) (t .word) (t .decision) t)) r)
-            (play.set-station st s (play.with-stage (rules.first-stage q n s (p .own-claim)) p))
+            → Follows (first-entry (rule-number q) n) (first-of q)
         go byStation = choice (eqb n 1) _ _ _ _ (λ w. decides) (λ w. begins)
         go byClaim = begins
 
     from-waiting : Step-linked Waiting
     unfolding stepped started rules.step-from
     from-waiting e y z =
-        subst (λ (m : ℕ). Linked o (with-station s (cond (eqb (r .rule) 1 && eqb m 1) (moved Decided s (t .round) (t .word) (t .claim) t) (moved Voting s (t .round) (t .word) (t .decision) t)) r)
-        (play.set-station st s (play.with-stage (rules.first-stage (o .rule) n s (p .own-claim)) p))) (sym (l .count))
-        (subst (λ (m : ℕ). Linked o (with-station s (cond (eqb m 1 && eqb n 1) (moved Decided s (t .round) (t .word) (t .claim) t) (moved Voting s (t .round) (t .word) (t .decision) t)) r)
-        (play.set-station st s (play.with-stage (rules.first-stage (o .rule) n s (p .own-claim)) p))) (sym (l .rule)) (first-same (o .rule) e))
+        subst (λ (m : ℕ). Follows (first-entry (r .rule) m) (first-of (o .rule))) (sym (l .count))
+        (subst (λ (m : ℕ). Follows (first-entry m n) (first-of (o .rule))) (sym (l .rule)) (first-same (o .rule) e))
 
-    -- the entry that seeking ends with at i, under rule m and with k more rounds
+    -- the entry that seeking ends with at i, under rule m and with c stations
+    abbrev found-of : Rule → ℕ → play.Stage
+    found-of q i = rules.found o st q i (t .round) (t .word)
+
     abbrev found-entry : ℕ → ℕ → ℕ → Station
     found-entry m c i =
         cond (eqb m 1)
         (cond (eqb (t .round + 1) (ceilLog2 c)) (moved Decided i (t .round) (t .word) (entry r i .claim) t) (moved Voting i (t .round + 1) (t .word) (t .decision) t))
         (moved FinishVoting i (t .round) (t .word) (t .decision) t)
 
-    found-same : (q : Rule) (i : ℕ) → i < n → Linked o (with-station s (found-entry (rule-number q) n i) r) (play.set-station st s (play.with-stage (rules.found o st q i (t .round) (t .word)) p))
+    found-same : (q : Rule) (i : ℕ) → i < n → Follows (found-entry (rule-number q) n i) (found-of q i)
     found-same byStation i b =
-        subst (λ (m : ℕ). Linked o (with-station s (cond (eqb m (ceilLog2 n)) (moved Decided i (t .round) (t .word) (entry r i .claim) t) (moved Voting i m (t .word) (t .decision) t)) r)
-        (play.set-station st s (play.with-stage (rules.found o st byStation i (t .round) (t .word)) p))) (sym (add-one (t .round)))
+        subst (λ (m : ℕ). Follows (cond (eqb m (ceilLog2 n)) (moved Decided i (t .round) (t .word) (entry r i .claim) t) (moved Voting i m (t .word) (t .decision) t)) (found-of byStation i)) (sym (add-one (t .round)))
         (choice (eqb (suc (t .round)) (ceilLog2 n)) _ _ _ _
         (λ w. moves Decided i (t .round) (t .word) (entry r i .claim) _ (ap (λ (v : ℕ). play.decided v (t .round)) (l .entries i b .claim)) b tt)
         (λ w. moves Voting i (suc (t .round)) (t .word) (t .decision) _ refl b tt))
     found-same byClaim i b = moves FinishVoting i (t .round) (t .word) (t .decision) _ refl b tt
 
-    found-linked : (i : ℕ) → i < n → Linked o (with-station s (found r t i) r) (play.set-station st s (play.with-stage (rules.found o st (o .rule) i (t .round) (t .word)) p))
+    found-linked : (i : ℕ) → i < n → Follows (found r t i) (found-of (o .rule) i)
     unfolding found
     found-linked i b =
-        subst (λ (m : ℕ). Linked o (with-station s (found-entry m (r .count) i) r) (play.set-station st s (play.with-stage (rules.found o st (o .rule) i (t .round) (t .word)) p))) (sym (l .rule))
-        (subst (λ (c : ℕ). Linked o (with-station s (found-entry (rule-number (o .rule)) c i) r) (play.set-station st s (play.with-stage (rules.found o st (o .rule) i (t .round) (t .word)) p))) (sym (l .count))
+        subst (λ (m : ℕ). Follows (found-entry m (r .count) i) (found-of (o .rule) i)) (sym (l .rule))
+        (subst (λ (c : ℕ). Follows (found-entry (rule-number (o .rule)) c i) (found-of (o .rule) i)) (sym (l .count))
         (found-same (o .rule) i b))
 
-    sought-linked : (i : ℕ) → i < n → Linked o (with-station s (sought r t i) r) (play.set-station st s (play.with-stage (rules.sought o st s i (t .round) (t .word)) p))
+    sought-linked : (i : ℕ) → i < n → Follows (sought r t i) (rules.sought o st s i (t .round) (t .word))
     unfolding sought
     sought-linked i b =
-        subst (λ (u : Bool). Linked o (with-station s (cond u (found r t i) (moved Seeking i (t .round) (t .word) (t .decision) t)) r) (play.set-station st s (play.with-stage (rules.sought o st s i (t .round) (t .word)) p)))
+        subst (λ (u : Bool). Follows (cond u (found r t i) (moved Seeking i (t .round) (t .word) (t .decision) t)) (rules.sought o st s i (t .round) (t .word)))
         (sym (ap₂ (λ (u : Bool) (v : ℕ). u && lowAgree (t .round) (t .word) v) (x .holds i) (spelled-same i b)))
         (choice (play.held st s i && lowAgree (t .round) (t .word) (rules.spelled o st i)) _ _ _ _
         (λ w. found-linked i b)
@@ -245,11 +260,14 @@ module _ (o : Opening) (a : Accepts o) (r : Settlement) (st : play.State) (l : L
     from-seeking : Step-linked Seeking
     unfolding stepped rules.step-from
     from-seeking e y z =
-        subst (λ (c : ℕ). Linked o (with-station s (sought r t ((t .cursor + 1) % c)) r) (play.set-station st s (play.with-stage (rules.sought o st s ((t .cursor + 1) % n) (t .round) (t .word)) p))) (sym (l .count))
+        subst (λ (c : ℕ). Follows (sought r t ((t .cursor + 1) % c)) (rules.sought o st s ((t .cursor + 1) % n) (t .round) (t .word))) (sym (l .count))
         (sought-linked ((t .cursor + 1) % n) (mod-lt (t .cursor + 1) (omega arith)))
 
-    finish-same : (v : Bool) → Linked o (with-station s (cond v (moved Decided (t .cursor) (t .round) (t .word) (t .word) t) (moved Voting (t .cursor) (t .round + 1) (t .word) (t .decision) t)) r)
-        (play.set-station st s (play.with-stage (rules.finished v (t .cursor) (t .round) (t .word)) p))
+    -- the entry that the finish answer v leads to
+    abbrev finish-entry : Bool → Station
+    finish-entry v = cond v (moved Decided (t .cursor) (t .round) (t .word) (t .word) t) (moved Voting (t .cursor) (t .round + 1) (t .word) (t .decision) t)
+
+    finish-same : (v : Bool) → Follows (finish-entry v) (rules.finished v (t .cursor) (t .round) (t .word))
     finish-same true = moves Decided (t .cursor) (t .round) (t .word) (t .word) _ refl (x .cursor) tt
     finish-same false = moves Voting (t .cursor) (t .round + 1) (t .word) (t .decision) _ (ap (λ (k : ℕ). play.voting (t .cursor) k (t .word)) (add-one (t .round))) (x .cursor) tt
 
@@ -258,8 +276,7 @@ module _ (o : Opening) (a : Accepts o) (r : Settlement) (st : play.State) (l : L
     from-finish-awaiting e y z =
         let b = finish-ballot (t .round) in
         let answered : play.answered (st .answer-of b) ≡ true = not-false→true _ (refused-not _ 8 _ refl z .0) in
-        subst (λ (v : Bool). Linked o (with-station s (cond (ballot r b .answer) (moved Decided (t .cursor) (t .round) (t .word) (t .word) t) (moved Voting (t .cursor) (t .round + 1) (t .word) (t .decision) t)) r)
-        (play.set-station st s (play.with-stage (rules.finished v (t .cursor) (t .round) (t .word)) p))) (taken-bit b answered) (finish-same (ballot r b .answer))
+        subst (λ (v : Bool). Follows (finish-entry (ballot r b .answer)) (rules.finished v (t .cursor) (t .round) (t .word))) (taken-bit b answered) (finish-same (ballot r b .answer))
 
     from-stage : (g : Stage) → Step-linked g
     from-stage Idle e y z = absurd (idle-refused o st s z)
@@ -271,7 +288,8 @@ module _ (o : Opening) (a : Accepts o) (r : Settlement) (st : play.State) (l : L
     from-stage FinishAwaiting e y z = from-finish-awaiting e y z
     from-stage Decided e y z = absurd (decided-refused o st s (t .decision) (t .round) z)
 
-    step-effect : stage-number o st s (p .stage) ≡ 0 → Linked o (stepped r s t (t .stage)) (play.set-station st s (rules.step-from o st s (p .stage) p))
+    step-effect : stage-number o st s (p .stage) ≡ 0
+        → Linked o (stepped r s t (t .stage)) (play.set-station st s (rules.step-from o st s (p .stage) p))
     step-effect z =
         subst (λ (g : play.Stage). Linked o (stepped r s t (t .stage)) (play.set-station st s (rules.step-from o st s g p))) (x .stage)
         (from-stage (t .stage) refl (subst Part (sym (x .stage)) (inv .parts s)) (ap (stage-number o st s) (x .stage) ∙ z))

@@ -33,7 +33,8 @@ abbrev Rounds : Rule → ℕ → Stage → ℕ → Type 0
 Rounds byStation n g k = ((in-round g && leb (ceilLog2 n) k) ≡ false) × (on-finish g ≡ false)
 Rounds byClaim n g k = (past-waiting g && leb claimBits k) ≡ false
 
-rounds-ok : (n : ℕ) (r : Rule) (st : play.State) → Inv (opening n r) st → Short (opening n r) st → (g : Stage) (j k d v : ℕ) (holds : ℕ → Bool) (cast : ℕ → Option Bool)
+rounds-ok : (n : ℕ) (r : Rule) (st : play.State) → Inv (opening n r) st → Short (opening n r) st
+    → (g : Stage) (j k d v : ℕ) (holds : ℕ → Bool) (cast : ℕ → Option Bool)
     → Stage-ok (opening n r) st (stage-of g j k d v) holds cast → Rounds r n g k
 rounds-ok n byStation st inv short Idle j k d v holds cast x = (refl, refl)
 rounds-ok n byStation st inv short Waiting j k d v holds cast x = (refl, refl)

@@ -67,7 +67,8 @@ linked-shows o r st l = record {
 -- ---- one entry replaced
 
 -- the entry of q once that of s is t
-pub entry-ind : (C : Station → Type 0) (r : Settlement) (s : ℕ) (t : Station) (q : ℕ) → s < length (r .stations) → (q ≡ s → C t) → ((q ≡ s → ⊥) → C (entry r q)) → C (entry (with-station s t r) q)
+pub entry-ind : (C : Station → Type 0) (r : Settlement) (s : ℕ) (t : Station) (q : ℕ) → s < length (r .stations) → (q ≡ s → C t)
+    → ((q ≡ s → ⊥) → C (entry r q)) → C (entry (with-station s t r) q)
 entry-ind C r s t q l new old =
     by-bool (eqb q s)
     (λ e.
@@ -75,7 +76,8 @@ entry-ind C r s t q l new old =
     subst (λ (x : ℕ). C (entry (with-station s t r) x)) (sym i) (subst C (sym (getD-set-same (r .stations) s t _ l)) (new i)))
     (λ e. let ne = eqb-false q s e in subst C (sym (getD-set-other (r .stations) s q t _ ne)) (old ne))
 
-pub ballot-ind : (C : Ballot → Type 0) (r : Settlement) (b : ℕ) (t : Ballot) (c : ℕ) → b < length (r .ballots) → (c ≡ b → C t) → ((c ≡ b → ⊥) → C (ballot r c)) → C (ballot (with-ballot b t r) c)
+pub ballot-ind : (C : Ballot → Type 0) (r : Settlement) (b : ℕ) (t : Ballot) (c : ℕ) → b < length (r .ballots) → (c ≡ b → C t)
+    → ((c ≡ b → ⊥) → C (ballot r c)) → C (ballot (with-ballot b t r) c)
 ballot-ind C r b t c l new old =
     by-bool (eqb c b)
     (λ e.
@@ -113,7 +115,8 @@ module _ (o : Opening) (a : Accepts o) (r : Settlement) (st : play.State) (l : L
   ballot-inside b i = subst (λ (x : ℕ). b < x) (sym (l .ballots)) i
 
   -- an entry replaced, with the casts as they were
-  pub own-linked : (s : ℕ) → s < o .count → (t : Station) (p : play.Station) → Entry-shows (o .count) t p → p .cast ≡ st .station s .cast → Linked o (with-station s t r) (play.set-station st s p)
+  pub own-linked : (s : ℕ) → s < o .count → (t : Station) (p : play.Station) → Entry-shows (o .count) t p → p .cast ≡ st .station s .cast
+      → Linked o (with-station s t r) (play.set-station st s p)
   own-linked s b t p x same = record {
     count = l .count;
     rule = l .rule;
@@ -191,7 +194,8 @@ module _ (o : Opening) (a : Accepts o) (r : Settlement) (st : play.State) (l : L
           (λ e. cast-other v y (ballot r b) e ∙ l .cast b y ∙ ap (any-below (o .count)) (fun-ext (λ q. other y e q)))
 
   -- a ballot answered
-  pub answer-linked : (b : ℕ) → b < ballotEntries → (v : Bool) → Linked o (with-ballot b (answering v (ballot r b)) r) (record { station = st .station; answer-of = play.update (st .answer-of) b (some v) })
+  pub answer-linked : (b : ℕ) → b < ballotEntries → (v : Bool)
+      → Linked o (with-ballot b (answering v (ballot r b)) r) (record { station = st .station; answer-of = play.update (st .answer-of) b (some v) })
   answer-linked b inside v = record {
     count = l .count;
     rule = l .rule;

@@ -97,7 +97,8 @@ module _ (o : Opening) (a : Accepts o) (r : Settlement) (st : play.State) (l : L
       last : eqb (finish-ballot k) last-ballot ≡ eqb (suc (finish-ballot k)) (events.ballots o)
       last = sym (eqb·suc-suc (finish-ballot k) last-ballot) ∙ ap (eqb (suc (finish-ballot k))) (sym (ap (λ (x : Rule). ballotsOf x (events.rounds o)) q))
 
-      go : (v : Bool) → st .answer-of (finish-ballot k) ≡ some v → refuse (not v && eqb (finish-ballot k) last-ballot) 42 0 ≡ last-refusal o (st .answer-of (finish-ballot k)) (finish-ballot k)
+      go : (v : Bool) → st .answer-of (finish-ballot k) ≡ some v
+          → refuse (not v && eqb (finish-ballot k) last-ballot) 42 0 ≡ last-refusal o (st .answer-of (finish-ballot k)) (finish-ballot k)
       go true x = ap (λ (y : Option Bool). last-refusal o y (finish-ballot k)) (sym x)
       go false x = ap (λ (b : Bool). refuse b 42 0) last ∙ ap (λ (y : Option Bool). last-refusal o y (finish-ballot k)) (sym x)
 

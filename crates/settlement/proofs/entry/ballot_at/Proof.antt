@@ -1,9 +1,8 @@
 -- `settlement::entry::ballot_at`: past the array the default is read. Assumes nothing.
-use mathlib.Core.Path.{_≡_, sym, _∙_}
-use native.Mathlib.Omega.{arith}
-use lib.ListN.{length, List·getD-eq-default}
+use mathlib.Core.Path.{_∙_}
 use borrow.Author.Needs.{needs}
-use Rattle.settlement.proofs.Entries.{unmapped-length}
+use Rattle.settlement.specs.Record.{ballotEntries, blank-ballot}
+use Rattle.settlement.proofs.Entries.{unmapped-length, read-past}
 use Rattle.settlement.proofs.entry.ballot_at.Statement.{statement}
 use Rattle.settlement.proofs.entry.ballot_at.Tie as tie
 
@@ -22,8 +21,7 @@ blank-ballot-requires c κs = search needs
 returns-2 : tie.Need-returns-2
 returns-2 c =
     let a = c .before .before .args in
-    let h : length (a .t1 .ballots) ≡ 64 = search (unmapped-length, needs) in
-    c .blank-ballot .ensures ∙ sym (List·getD-eq-default (a .t1 .ballots) _ (omega arith))
+    c .blank-ballot .ensures ∙ read-past (a .t1 .ballots) blank-ballot ballotEntries (a .b) (search (unmapped-length, needs)) (c .before .if1 .left)
 
 pub ballot-at-spec : {M : Type 1} → statement M
 ballot-at-spec =

@@ -1,0 +1,39 @@
+-- The words of demand 3 are what the play's state shows, both ways: so none of them can be empty or too wide without notice. Assumes nothing.
+use Prim.Native.Nat.{ℕ, _≤_}
+use mathlib.Core.Path.{_≡_}
+use mathlib.Core.Logic.{_↔_, _⊎_}
+use mathlib.Core.Bool.{true}
+use mathlib.Core.Option.{Option, none, some}
+use Rattle.bits.specs.Digits.{bitLength}
+use Rattle.consensus.specs.Events.{History, Opening}
+use Rattle.consensus.specs.State.{Stage, idle, waiting, voting, awaiting, seeking, finish-voting, finish-awaiting, decided, claimed, claim-of, held, answered}
+use Rattle.consensus.specs.Rules.{bit-ballot, finish-ballot, after}
+use Rattle.consensus.specs.Words.{decision, Put-in, Holds, Lost, Answered, first-answer, waits-on, Decided, longest}
+
+-- the ballot that a station at this stage waits on
+abbrev pub awaited : Opening → Stage → Option ℕ
+awaited o idle = none
+awaited o waiting = none
+awaited o (voting j k d) = none
+awaited o (awaiting j k d) = some (bit-ballot o k)
+awaited o (seeking j k d) = none
+awaited o (finish-voting j k d) = none
+awaited o (finish-awaiting j k d) = some (finish-ballot k)
+awaited o (decided v k) = none
+
+module _ (o : Opening) (h : History) where
+  pub record Words-told : Type 0 where
+    pub put-in : (s v : ℕ) → Put-in o s v h ↔ ((claimed (after o h) s ≡ true) × (claim-of (after o h) s ≡ v))
+    pub holds : (s t : ℕ) → Holds o s t h ↔ (held (after o h) s t ≡ true)
+    pub lost : (s : ℕ) → Lost o s h ↔ (after o h .station s .lost ≡ true)
+    pub is-answered : (b : ℕ) → Answered o b h ↔ (answered (after o h .answer-of b) ≡ true)
+    pub first : (b : ℕ) → first-answer o h b ≡ after o h .answer-of b
+    pub waits : (p : ℕ) → waits-on o p h ≡ awaited o (after o h .station p .stage)
+    pub has-decided : (p v : ℕ) → Decided o p v h ↔ (decision (after o h .station p .stage) ≡ some v)
+    -- K: no claim put in is longer, and one is as long, unless nothing was put in
+    pub none-longer : (s v : ℕ) → Put-in o s v h → bitLength v ≤ longest o h
+    pub as-long : (longest o h ≡ 0) ⊎ ((s : ℕ) × (v : ℕ) × Put-in o s v h × (bitLength v ≡ longest o h))
+
+-- every opening, every list
+pub record Told : Type 0 where
+  pub words : (o : Opening) (h : History) → Words-told o h
