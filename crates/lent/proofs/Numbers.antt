@@ -175,9 +175,6 @@ module _ {M : Type 1} {𝓤 : URA M} {H : Heap 𝓤} {A : Atoms 𝓤} {K : Type 
   opds-in : K → {Γ Γ′ : List (Item 𝓤)} {E : Env 𝓤 H} {xs : List Operand} {vs : List Val} → ent 𝓤 (⋆ 𝓤 H A Γ) (⋆ 𝓤 H A Γ′) → ent 𝓤 (⋆ 𝓤 H A Γ′) (⋆ 𝓤 H A Γ) → Opds K W Γ′ E xs vs → Opds K W Γ E xs vs
   opds-in t {Γ} {Γ′} there back os = record { go = λ Kt h. via 𝓤 (⋆ 𝓤 H A Γ′) there (os .go Kt (via 𝓤 (⋆ 𝓤 H A Γ) back h)) }
 
-  same : K → {Γ : List (Item 𝓤)} → Seq K W Γ (prop (⋆ 𝓤 H A Γ))
-  same t {Γ} = record { prf = id⊢ 𝓤 (⋆ 𝓤 H A Γ) }
-
   -- a local whose place is told
   pub found : K → {Γ : List (Item 𝓤)} {E : Env 𝓤 H} {i : ℕ} {st : List PStep} {at sp : Spot 𝓤 H} → spotOf 𝓤 H E i ≡ at → Walks K W Γ E at st sp → Finds K W Γ E (place i st) sp
   found t {Γ} {E} {i} {st} {at} {sp} e w = from t (subst (λ (z : Spot 𝓤 H). Walks K W Γ E z st sp) (sym e) w)
@@ -185,13 +182,13 @@ module _ {M : Type 1} {𝓤 : URA M} {H : Heap 𝓤} {A : Atoms 𝓤} {K : Type 
 module _ {M : Type 1} {𝓤 : URA M} {H : Heap 𝓤} {A : Atoms 𝓤} {K : Type 0} {W : Given 𝓤 H A} where
   -- the first two items of the context may stand the other way round
   pub opds-swap : K → {i j : Item 𝓤} {Γ : List (Item 𝓤)} {E : Env 𝓤 H} {xs : List Operand} {vs : List Val} → Opds K W (j ∷ i ∷ Γ) E xs vs → Opds K W (i ∷ j ∷ Γ) E xs vs
-  opds-swap t {i} {j} {Γ} os = opds-in t (qed W (i ∷ j ∷ Γ) ∵ move ! (1 ∷ 0 ∷ []) $ same !) (qed W (j ∷ i ∷ Γ) ∵ move ! (1 ∷ 0 ∷ []) $ same !) os
+  opds-swap t {i} {j} {Γ} os = opds-in t (qed W (i ∷ j ∷ Γ) ∵ move ! (1 ∷ 0 ∷ []) $ done !) (qed W (j ∷ i ∷ Γ) ∵ move ! (1 ∷ 0 ∷ []) $ done !) os
 
   -- the numbers are passed on
   pub load-numbers : K → (ws : List Width) (ls ns : Numbers ws) (E : Env 𝓤 H) (i : ℕ) → At 𝓤 H E i ws ls → {Γ : List (Item 𝓤)} → Opds K W (‵ (cells ws ls ns) ∷ Γ) E (operands ws i) (machine ws ns)
   load-numbers t [] ls ns E i at = no-more t
   load-numbers t (w ∷ ws) ls ns E i at {Γ} =
       opds-in t {Γ′ = ‵ (fat fullShare (tyInt w) (ls .0) zero (vint w (ns .0))) ∷ ‵ (cells ws (ls .1) (ns .1)) ∷ ‵ (fdies (tyInt w) (ls .0)) ∷ Γ}
-      (qed W (‵ (cells (w ∷ ws) ls ns) ∷ Γ) ∵ fsplit ! $ fsplit ! $ move ! (0 ∷ 2 ∷ []) $ same !)
-      (qed W (‵ (fat fullShare (tyInt w) (ls .0) zero (vint w (ns .0))) ∷ ‵ (cells ws (ls .1) (ns .1)) ∷ ‵ (fdies (tyInt w) (ls .0)) ∷ Γ) ∵ move ! (0 ∷ 2 ∷ []) $ fjoin ! $ fjoin ! $ same !)
+      (qed W (‵ (cells (w ∷ ws) ls ns) ∷ Γ) ∵ fsplit ! $ fsplit ! $ move ! (0 ∷ 2 ∷ []) $ done !)
+      (qed W (‵ (fat fullShare (tyInt w) (ls .0) zero (vint w (ns .0))) ∷ ‵ (cells ws (ls .1) (ns .1)) ∷ ‵ (fdies (tyInt w) (ls .0)) ∷ Γ) ∵ move ! (0 ∷ 2 ∷ []) $ fjoin ! $ fjoin ! $ done !)
       (and-then t (load t (found t (at .0) (stop t)) (look t 0 refl)) (opds-swap t (load-numbers t ws (ls .1) (ns .1) E (suc i) (at .1))))
