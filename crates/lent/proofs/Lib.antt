@@ -1,10 +1,15 @@
 -- What the proofs of the entries share.
 --     Numbers    the numbers that an entry takes
+--     Settled    a settlement and an outcome as a walk meets them
 --     Contracts  an event by value, and the same event on a lent settlement
 --     Stored     the end of every entry's walk
---     Lent       the walk of an entry
+--     Entry      what an entry's proof has beside the walk
+--     Lent       the walk of an event's entry
+--     Lending    the walk of a function that lends a local to an entry
 pub mod Numbers
+pub mod Settled
 pub mod Contracts
 pub mod Stored
+pub mod Entry
 pub mod Lent
 pub mod Lending
