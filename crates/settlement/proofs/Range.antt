@@ -54,7 +54,10 @@ pub record Sound-station (n rule : ℕ) (t : Station) : Type 0 where
 
 pub sound : (r : Settlement) → fault r ≡ false → Sound r
 unfolding fault
-sound r h = let none = none-of-three (ltb stationEntries (r .count)) (not (eqb (r .rule) 1 || eqb (r .rule) 2)) (any-below (r .count) (fault-at r)) h in record { few = none .0; rule = none .1; stations = none .2 }
+sound r h =
+    let none =
+    none-of-three (ltb stationEntries (r .count)) (not (eqb (r .rule) 1 || eqb (r .rule) 2)) (any-below (r .count) (fault-at r)) h in
+    record { few = none .0; rule = none .1; stations = none .2 }
 
 pub sound-station : (n rule : ℕ) (t : Station) → station-fault n rule t ≡ false → Sound-station n rule t
 unfolding station-fault
@@ -85,7 +88,9 @@ module _ (r : Settlement) (passes : fault r ≡ false) where
     no-finish-by-station rule = unless _ _ (clauses .finish) rule
 
     pub round-by-claim : by-station r ≡ false → past-waiting (entry r s .stage) ≡ true → entry r s .round < claimBits
-    round-by-claim rule stage = leb-false _ _ (unless (eqb (r .rule) 2 && past-waiting (entry r s .stage)) _ (clauses .late) (rw (other _ _ some-rule rule, stage)))
+    round-by-claim rule stage =
+        leb-false _ _
+        (unless (eqb (r .rule) 2 && past-waiting (entry r s .stage)) _ (clauses .late) (rw (other _ _ some-rule rule, stage)))
 
     pub round-below : (in-round (entry r s .stage) || on-finish (entry r s .stage)) ≡ true → entry r s .round < claimBits
     round-below acting =

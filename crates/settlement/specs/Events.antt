@@ -1,5 +1,6 @@
 -- OPEN and the five events, whole: number and record (document 01, "Operations and what they turn away").
--- An event of the list is `Rattle.consensus.specs.Events.Event`, with any numbers as arguments; the crate's enum is translated to it. Assumes nothing.
+-- An event of the list is `Rattle.consensus.specs.Events.Event`, with any numbers as arguments; the crate's enum is translated to it.
+-- Assumes nothing.
 use Prim.Native.Nat.{ℕ}
 use mathlib.Core.Bool.{cond}
 use lib.Dec.{eqb}
@@ -22,7 +23,13 @@ outcome k next given = record { number = k; settlement = cond (eqb k 0) next giv
 
 -- n stations under a rule, and every entry as it starts
 abbrev pub fresh : ℕ → ℕ → Settlement
-fresh n rule = record { count = n; rule = rule; stations = replicate stationEntries blank-station; ballots = replicate ballotEntries blank-ballot }
+fresh n rule =
+    record {
+      count = n;
+      rule = rule;
+      stations = replicate stationEntries blank-station;
+      ballots = replicate ballotEntries blank-ballot;
+    }
 
 -- "the blank settlement: no stations, rule 1, no ballots"
 abbrev pub blank : Settlement

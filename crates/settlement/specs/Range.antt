@@ -1,4 +1,5 @@
--- What the functions of STEP rely on, beside the definitions. It holds of every STEP that is not refused, on any record: the record test sees to it. Assumes nothing.
+-- What the functions of STEP rely on, beside the definitions. It holds of every STEP that is not refused, on any record: the record test
+-- sees to it. Assumes nothing.
 use Prim.Native.Nat.{_<_}
 use mathlib.Core.Path.{_≡_}
 use mathlib.Core.Bool.{true, _||_}

@@ -1,4 +1,5 @@
--- The settlement record read and changed (document 01, "The settlement"). All of it holds on any record, made-up ones included. Assumes nothing.
+-- The settlement record read and changed (document 01, "The settlement"). All of it holds on any record, made-up ones included.
+-- Assumes nothing.
 use Prim.Native.Nat.{ℕ, _*_}
 use mathlib.Core.Bool.{Bool, true, false, cond, not}
 use lib.Dec.{eqb, ltb}
@@ -96,17 +97,45 @@ was-cast t a = cond a (t .cast1) (t .cast0)
 
 -- CLAIM: the claim put in, the stage waiting
 abbrev pub claiming : ℕ → Station → Station
-claiming v t = record { stage = Waiting; lost = t .lost; held = t .held; claim = v; cursor = t .cursor; round = t .round; word = t .word; decision = t .decision }
+claiming v t =
+    record {
+      stage = Waiting;
+      lost = t .lost;
+      held = t .held;
+      claim = v;
+      cursor = t .cursor;
+      round = t .round;
+      word = t .word;
+      decision = t .decision;
+    }
 
 -- DELIVER: one more claim held
 abbrev pub holding : ℕ → Station → Station
 holding i t =
-    record { stage = t .stage; lost = t .lost; held = insert i (t .held); claim = t .claim; cursor = t .cursor; round = t .round; word = t .word; decision = t .decision }
+    record {
+      stage = t .stage;
+      lost = t .lost;
+      held = insert i (t .held);
+      claim = t .claim;
+      cursor = t .cursor;
+      round = t .round;
+      word = t .word;
+      decision = t .decision;
+    }
 
 -- LOSE: the mark beside the stage
 abbrev pub losing : Station → Station
 losing t =
-    record { stage = t .stage; lost = true; held = t .held; claim = t .claim; cursor = t .cursor; round = t .round; word = t .word; decision = t .decision }
+    record {
+      stage = t .stage;
+      lost = true;
+      held = t .held;
+      claim = t .claim;
+      cursor = t .cursor;
+      round = t .round;
+      word = t .word;
+      decision = t .decision;
+    }
 
 -- STEP: another stage g, cursor j, round k, word d and decision v
 abbrev pub moved : Stage → (j k d v : ℕ) → Station → Station

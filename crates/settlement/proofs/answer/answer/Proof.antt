@@ -25,7 +25,15 @@ joined-requires c κs = search needs
 
 returns : tie.Need-returns
 unfolding played number first-met next
-returns c = rw (c .joined .ensures, c .before .with-ballot-at .ensures, c .before .before .answering .ensures, c .before .before .before .ballot-at .ensures, c .before .before .before .before .record-first .ensures, c .before .before .before .before .before .answer-number .ensures)
+returns c =
+    rw (
+      c .joined .ensures,
+      c .before .with-ballot-at .ensures,
+      c .before .before .answering .ensures,
+      c .before .before .before .ballot-at .ensures,
+      c .before .before .before .before .record-first .ensures,
+      c .before .before .before .before .before .answer-number .ensures,
+    )
 
 pub answer-spec : {M : Type 1} → statement M
 answer-spec =

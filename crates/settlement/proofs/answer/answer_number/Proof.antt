@@ -27,7 +27,16 @@ refuse-requires-4 c κs = search needs
 
 returns : tie.Need-returns
 unfolding first-met
-returns c = rw (c .refuse4 .ensures, c .before .refuse3 .ensures, c .before .before .ballot-count .ensures, c .before .before .before .refuse2 .ensures, c .before .before .before .before .refuse .ensures, c .before .before .before .before .before .was-cast .ensures, c .before .before .before .before .before .before .ballot-at .ensures)
+returns c =
+    rw (
+      c .refuse4 .ensures,
+      c .before .refuse3 .ensures,
+      c .before .before .ballot-count .ensures,
+      c .before .before .before .refuse2 .ensures,
+      c .before .before .before .before .refuse .ensures,
+      c .before .before .before .before .before .was-cast .ensures,
+      c .before .before .before .before .before .before .ballot-at .ensures,
+    )
 
 pub answer-number-spec : {M : Type 1} → statement M
 answer-number-spec =

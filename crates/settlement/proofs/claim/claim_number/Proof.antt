@@ -24,7 +24,15 @@ refuse-requires-3 c κs = search needs
 
 returns : tie.Need-returns
 unfolding first-met
-returns c = rw (c .refuse3 .ensures, c .before .refuse2 .ensures, c .before .before .refuse .ensures, c .before .before .before .not-idle .ensures, c .before .before .before .before .no-station .ensures, c .before .before .before .before .before .station-at .ensures)
+returns c =
+    rw (
+      c .refuse3 .ensures,
+      c .before .refuse2 .ensures,
+      c .before .before .refuse .ensures,
+      c .before .before .before .not-idle .ensures,
+      c .before .before .before .before .no-station .ensures,
+      c .before .before .before .before .before .station-at .ensures,
+    )
 
 pub claim-number-spec : {M : Type 1} → statement M
 claim-number-spec =

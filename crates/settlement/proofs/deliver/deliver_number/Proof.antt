@@ -36,7 +36,19 @@ refuse-requires-4 c κs = search needs
 
 returns : tie.Need-returns
 unfolding first-met
-returns c = rw (c .refuse4 .ensures, c .before .refuse3 .ensures, c .before .before .no-station2 .ensures, c .before .before .before .no-station .ensures, c .before .before .before .before .refuse2 .ensures, c .before .before .before .before .before .refuse .ensures, c .before .before .before .before .before .before .mask-has .ensures, c .before .before .before .before .before .before .before .not-idle .ensures, c .before .before .before .before .before .before .before .before .station-at2 .ensures, c .before .before .before .before .before .before .before .before .before .station-at .ensures)
+returns c =
+    rw (
+      c .refuse4 .ensures,
+      c .before .refuse3 .ensures,
+      c .before .before .no-station2 .ensures,
+      c .before .before .before .no-station .ensures,
+      c .before .before .before .before .refuse2 .ensures,
+      c .before .before .before .before .before .refuse .ensures,
+      c .before .before .before .before .before .before .mask-has .ensures,
+      c .before .before .before .before .before .before .before .not-idle .ensures,
+      c .before .before .before .before .before .before .before .before .station-at2 .ensures,
+      c .before .before .before .before .before .before .before .before .before .station-at .ensures,
+    )
 
 pub deliver-number-spec : {M : Type 1} → statement M
 deliver-number-spec =

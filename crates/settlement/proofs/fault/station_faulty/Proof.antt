@@ -18,7 +18,13 @@ past-waiting-requires c κs = search needs
 
 returns : tie.Need-returns
 unfolding station-fault
-returns c = rw (c .before .past-waiting .ensures, c .before .before .on-finish .ensures, c .before .before .before .before .ceil-log2 .ensures, c .before .before .before .before .before .in-round .ensures)
+returns c =
+    rw (
+      c .before .past-waiting .ensures,
+      c .before .before .on-finish .ensures,
+      c .before .before .before .before .ceil-log2 .ensures,
+      c .before .before .before .before .before .in-round .ensures,
+    )
 
 pub station-faulty-spec : {M : Type 1} → statement M
 station-faulty-spec =

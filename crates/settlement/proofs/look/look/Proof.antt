@@ -29,12 +29,24 @@ votes-requires c κs = search needs
 cast-t10 : tie.Need-cast-t10
 cast-t10 c =
     let a = c .before .before .before .before .before .before .args in
-    record { fits = rw (c .votes .ensures, c .before .before .before .station-at .ensures) (few-votes (a .r) (a .s) (sym (c .before .before .before .before .before .look-number .ensures) ∙ c .before .before .before .before .if1 .left)) }
+    record {
+      fits = rw (
+        c .votes .ensures,
+        c .before .before .before .station-at .ensures,
+      ) (few-votes (a .r) (a .s) (sym (c .before .before .before .before .before .look-number .ensures) ∙ c .before .before .before .before .if1 .left));
+    }
 
 returns-2 : tie.Need-returns-2
 unfolding looked
 returns-2 c =
-    rw (← c .before .before .before .before .before .look-number .ensures, c .before .before .before .before .if1 .left, c .votes .ensures, c .before .shown .ensures, c .before .before .is-decided .ensures, c .before .before .before .station-at .ensures)
+    rw (
+      ← c .before .before .before .before .before .look-number .ensures,
+      c .before .before .before .before .if1 .left,
+      c .votes .ensures,
+      c .before .shown .ensures,
+      c .before .before .is-decided .ensures,
+      c .before .before .before .station-at .ensures,
+    )
 
 pub look-spec : {M : Type 1} → statement M
 look-spec =

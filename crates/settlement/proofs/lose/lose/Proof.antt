@@ -25,7 +25,15 @@ joined-requires c κs = search needs
 
 returns : tie.Need-returns
 unfolding played number first-met next
-returns c = rw (c .joined .ensures, c .before .with-station-at .ensures, c .before .before .losing .ensures, c .before .before .before .station-at .ensures, c .before .before .before .before .record-first .ensures, c .before .before .before .before .before .lose-number .ensures)
+returns c =
+    rw (
+      c .joined .ensures,
+      c .before .with-station-at .ensures,
+      c .before .before .losing .ensures,
+      c .before .before .before .station-at .ensures,
+      c .before .before .before .before .record-first .ensures,
+      c .before .before .before .before .before .lose-number .ensures,
+    )
 
 pub lose-spec : {M : Type 1} → statement M
 lose-spec =

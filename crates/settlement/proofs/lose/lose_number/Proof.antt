@@ -18,7 +18,13 @@ refuse-requires-2 c κs = search needs
 
 returns : tie.Need-returns
 unfolding first-met
-returns c = rw (c .refuse2 .ensures, c .before .refuse .ensures, c .before .before .no-station .ensures, c .before .before .before .station-at .ensures)
+returns c =
+    rw (
+      c .refuse2 .ensures,
+      c .before .refuse .ensures,
+      c .before .before .no-station .ensures,
+      c .before .before .before .station-at .ensures,
+    )
 
 pub lose-number-spec : {M : Type 1} → statement M
 lose-number-spec =

@@ -18,7 +18,8 @@ joined-requires c κs = search needs
 
 returns : tie.Need-returns
 unfolding opened
-returns c = rw (c .joined .ensures, c .before .fresh2 .ensures, c .before .before .fresh .ensures, c .before .before .before .open-number .ensures)
+returns c =
+    rw (c .joined .ensures, c .before .fresh2 .ensures, c .before .before .fresh .ensures, c .before .before .before .open-number .ensures)
 
 pub open-spec : {M : Type 1} → statement M
 open-spec =

@@ -19,14 +19,24 @@ moved-requires c κs = search needs
 returns : tie.Need-returns
 unfolding found
 returns c =
-    rw (c .moved .ensures, c .before .before .if1 .taken, rw (c .before .before .before .before .ceil-log2 .ensures) at (c .before .if2 .taken), c .before .before .before .station-at .ensures)
+    rw (
+      c .moved .ensures,
+      c .before .before .if1 .taken,
+      rw (c .before .before .before .before .ceil-log2 .ensures) at (c .before .if2 .taken),
+      c .before .before .before .station-at .ensures,
+    )
 
 moved-requires-2 : tie.Need-moved-requires-2
 moved-requires-2 c κs = search needs
 
 returns-2 : tie.Need-returns-2
 unfolding found
-returns-2 c = rw (c .moved2 .ensures, c .before .before .if1 .taken, rw (c .before .before .before .before .ceil-log2 .ensures) at (c .before .if2 .left))
+returns-2 c =
+    rw (
+      c .moved2 .ensures,
+      c .before .before .if1 .taken,
+      rw (c .before .before .before .before .ceil-log2 .ensures) at (c .before .if2 .left),
+    )
 
 moved-requires-3 : tie.Need-moved-requires-3
 moved-requires-3 c κs = search needs

@@ -19,7 +19,14 @@ found-requires c κs = search needs
 returns : tie.Need-returns
 unfolding sought
 returns c =
-    rw (c .found .ensures, rw (c .before .before .low-bits-agree .ensures, c .before .before .before .spelled .ensures, c .before .before .before .before .mask-has .ensures) at (c .before .if1 .taken))
+    rw (
+      c .found .ensures,
+      rw (
+        c .before .before .low-bits-agree .ensures,
+        c .before .before .before .spelled .ensures,
+        c .before .before .before .before .mask-has .ensures,
+      ) at (c .before .if1 .taken),
+    )
 
 moved-requires : tie.Need-moved-requires
 moved-requires c κs = search needs
@@ -27,7 +34,14 @@ moved-requires c κs = search needs
 returns-2 : tie.Need-returns-2
 unfolding sought
 returns-2 c =
-    rw (c .moved .ensures, rw (c .before .before .low-bits-agree .ensures, c .before .before .before .spelled .ensures, c .before .before .before .before .mask-has .ensures) at (c .before .if1 .left))
+    rw (
+      c .moved .ensures,
+      rw (
+        c .before .before .low-bits-agree .ensures,
+        c .before .before .before .spelled .ensures,
+        c .before .before .before .before .mask-has .ensures,
+      ) at (c .before .if1 .left),
+    )
 
 pub sought-spec : {M : Type 1} → statement M
 sought-spec =

@@ -15,7 +15,14 @@ moved-requires c κs = search needs
 
 returns : tie.Need-returns
 unfolding finish-taken
-returns c = rw (c .moved .ensures, rw (c .before .before .ballot-at .ensures, c .before .before .before .finish-ballot .ensures) at (c .before .if1 .taken))
+returns c =
+    rw (
+      c .moved .ensures,
+      rw (
+        c .before .before .ballot-at .ensures,
+        c .before .before .before .finish-ballot .ensures,
+      ) at (c .before .if1 .taken),
+    )
 
 add-moved : tie.Need-add-moved
 add-moved c = search needs
@@ -25,7 +32,14 @@ moved-requires-2 c κs = search needs
 
 returns-2 : tie.Need-returns-2
 unfolding finish-taken
-returns-2 c = rw (c .moved2 .ensures, rw (c .before .before .before .ballot-at .ensures, c .before .before .before .before .finish-ballot .ensures) at (c .before .before .if1 .left))
+returns-2 c =
+    rw (
+      c .moved2 .ensures,
+      rw (
+        c .before .before .before .ballot-at .ensures,
+        c .before .before .before .before .finish-ballot .ensures,
+      ) at (c .before .before .if1 .left),
+    )
 
 pub finish-taken-spec : {M : Type 1} → statement M
 finish-taken-spec =

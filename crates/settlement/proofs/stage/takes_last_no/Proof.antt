@@ -63,7 +63,12 @@ returns-6 c = rw (c .enum-told6 .given .1)
 
 returns-7 : tie.Need-returns-7
 unfolding takes-last-no
-returns-7 c = rw (c .before .enum-told7 .given .1, c .before .before .before .ballot-at .ensures, c .before .before .before .before .finish-ballot .ensures)
+returns-7 c =
+    rw (
+      c .before .enum-told7 .given .1,
+      c .before .before .before .ballot-at .ensures,
+      c .before .before .before .before .finish-ballot .ensures,
+    )
 
 returns-8 : tie.Need-returns-8
 unfolding takes-last-no

@@ -21,7 +21,14 @@ with-ballot-at-requires c κs = search needs
 
 returns : tie.Need-returns
 unfolding voted
-returns c = rw (c .with-ballot-at .ensures, c .before .casting .ensures, c .before .before .ballot-at .ensures, c .before .before .before .with-station-at .ensures, c .before .before .before .before .moved .ensures)
+returns c =
+    rw (
+      c .with-ballot-at .ensures,
+      c .before .casting .ensures,
+      c .before .before .ballot-at .ensures,
+      c .before .before .before .with-station-at .ensures,
+      c .before .before .before .before .moved .ensures,
+    )
 
 pub voted-spec : {M : Type 1} → statement M
 voted-spec =

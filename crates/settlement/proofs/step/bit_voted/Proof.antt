@@ -18,7 +18,8 @@ voted-requires c κs = search needs
 
 returns : tie.Need-returns
 unfolding stepped
-returns c = rw (c .voted .ensures, c .before .bit-ballot .ensures, c .before .before .bit-at .ensures, c .before .before .before .spelled .ensures)
+returns c =
+    rw (c .voted .ensures, c .before .bit-ballot .ensures, c .before .before .bit-at .ensures, c .before .before .before .spelled .ensures)
 
 pub bit-voted-spec : {M : Type 1} → statement M
 bit-voted-spec =

@@ -15,7 +15,8 @@ voted-requires c κs = search needs
 
 returns : tie.Need-returns
 unfolding stepped
-returns c = rw (c .voted .ensures, c .before .before .before .finish-ballot .ensures, c .before .before .before .before .station-at .ensures)
+returns c =
+    rw (c .voted .ensures, c .before .before .before .finish-ballot .ensures, c .before .before .before .before .station-at .ensures)
 
 pub finish-voted-spec : {M : Type 1} → statement M
 finish-voted-spec =

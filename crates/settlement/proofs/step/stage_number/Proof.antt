@@ -30,7 +30,17 @@ refuse-requires-4 c κs = search needs
 
 returns : tie.Need-returns
 unfolding first-met
-returns c = rw (c .refuse4 .ensures, c .before .refuse3 .ensures, c .before .before .is-decided .ensures, c .before .before .before .not-idle .ensures, c .before .before .before .before .refuse2 .ensures, c .before .before .before .before .before .refuse .ensures, c .before .before .before .before .before .before .takes-last-no .ensures, c .before .before .before .before .before .before .before .must-wait .ensures)
+returns c =
+    rw (
+      c .refuse4 .ensures,
+      c .before .refuse3 .ensures,
+      c .before .before .is-decided .ensures,
+      c .before .before .before .not-idle .ensures,
+      c .before .before .before .before .refuse2 .ensures,
+      c .before .before .before .before .before .refuse .ensures,
+      c .before .before .before .before .before .before .takes-last-no .ensures,
+      c .before .before .before .before .before .before .before .must-wait .ensures,
+    )
 
 pub stage-number-spec : {M : Type 1} → statement M
 stage-number-spec =

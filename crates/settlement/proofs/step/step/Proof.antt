@@ -38,7 +38,14 @@ joined-requires c κs = search needs
 
 returns-2 : tie.Need-returns-2
 unfolding played number first-met next
-returns-2 c = rw (c .joined .ensures, c .before .stepped .ensures, c .before .before .station-at .ensures, c .before .before .before .before .record-first .ensures, c .before .before .before .before .before .step-number .ensures)
+returns-2 c =
+    rw (
+      c .joined .ensures,
+      c .before .stepped .ensures,
+      c .before .before .station-at .ensures,
+      c .before .before .before .before .record-first .ensures,
+      c .before .before .before .before .before .step-number .ensures,
+    )
 
 pub step-spec : {M : Type 1} → statement M
 step-spec =

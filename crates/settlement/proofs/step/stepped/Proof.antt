@@ -79,7 +79,13 @@ returns-4 c = rw (c .with-station-at2 .ensures, c .before .bit-taken .ensures, c
 
 returns-5 : tie.Need-returns-5
 unfolding stepped
-returns-5 c = rw (c .with-station-at3 .ensures, c .before .sought .ensures, c .before .before .next-cursor .ensures, c .before .before .before .enum-told5 .given .1)
+returns-5 c =
+    rw (
+      c .with-station-at3 .ensures,
+      c .before .sought .ensures,
+      c .before .before .next-cursor .ensures,
+      c .before .before .before .enum-told5 .given .1,
+    )
 
 returns-6 : tie.Need-returns-6
 unfolding stepped
