@@ -1,0 +1,7 @@
+-- What the crate `report` is about, as a reader must believe it.
+--     Words     quoted text as bytes
+--     Decimal   a number in decimal
+--     Written   bytes written into a lent buffer
+pub mod Words
+pub mod Decimal
+pub mod Written

@@ -1,0 +1,3 @@
+// The text that the program `settle` prints (document 01, "The program settle"), written into a buffer that the caller lends.
+
+mod writer;
