@@ -1,7 +1,9 @@
 -- What the crate `report` is about, as a reader must believe it.
 --     Words     quoted text as bytes
 --     Decimal   a number in decimal
+--     Text      the lines
 --     Written   bytes written into a lent buffer
 pub mod Words
 pub mod Decimal
+pub mod Text
 pub mod Written
