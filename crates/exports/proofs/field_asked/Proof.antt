@@ -1,8 +1,8 @@
--- `report::exports::field_asked`: kind by kind. Assumes nothing.
-use Rattle.report.specs.Exports.{asked}
+-- `exports::field_asked`: kind by kind. Assumes nothing.
+use Rattle.exports.specs.Exports.{asked}
 use borrow.Author.Needs.{needs}
-use Rattle.report.proofs.exports.field_asked.Statement.{statement}
-use Rattle.report.proofs.exports.field_asked.Tie as tie
+use Rattle.exports.proofs.field_asked.Statement.{statement}
+use Rattle.exports.proofs.field_asked.Tie as tie
 
 enum-told : tie.Need-enum-told
 enum-told c = search needs

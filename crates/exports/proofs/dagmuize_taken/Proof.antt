@@ -1,7 +1,7 @@
--- `report::exports::dagmuize_taken`: a part of what RUN answers. Assumes nothing.
+-- `exports::dagmuize_taken`: a part of what RUN answers. Assumes nothing.
 use borrow.Author.Needs.{needs}
-use Rattle.report.proofs.exports.dagmuize_taken.Statement.{statement}
-use Rattle.report.proofs.exports.dagmuize_taken.Tie as tie
+use Rattle.exports.proofs.dagmuize_taken.Statement.{statement}
+use Rattle.exports.proofs.dagmuize_taken.Tie as tie
 
 run-requires : tie.Need-run-requires
 run-requires c κs = search needs

@@ -1,7 +1,7 @@
--- `report::exports::dagmuize_read_number`: found or refused. Assumes nothing.
+-- `exports::dagmuize_read_number`: found or refused. Assumes nothing.
 use borrow.Author.Needs.{needs}
-use Rattle.report.proofs.exports.dagmuize_read_number.Statement.{statement}
-use Rattle.report.proofs.exports.dagmuize_read_number.Tie as tie
+use Rattle.exports.proofs.dagmuize_read_number.Statement.{statement}
+use Rattle.exports.proofs.dagmuize_read_number.Tie as tie
 
 read-requires : tie.Need-read-requires
 read-requires c κs = search needs

@@ -3,10 +3,9 @@ ghost use mathlib.Core.Path.{_≡_};
 ghost use Rattle.log.specs.Read.{found, number-of, taken-of};
 ghost use Rattle.log.specs.Run.{ran};
 ghost use Rattle.log.specs.Table.{row-with};
-ghost use Rattle.report.specs.Exports.{asked, put-answer, put-after};
+ghost use Rattle.exports.specs.Exports.{asked, put-answer, put-after};
 ghost use Rattle.report.specs.Report.{report};
 ghost use Rattle.report.specs.Written.{Printed};
-use crate::report::report;
 use bits::word::Word;
 use log::field::Field;
 use log::put::put;
@@ -16,6 +15,7 @@ use log::run::run;
 use log::table::Kind;
 use log::table::Known;
 use log::table::row_with;
+use report::report::report;
 use settlement::record::Event;
 
 #[no_mangle]

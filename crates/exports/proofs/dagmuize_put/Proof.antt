@@ -1,13 +1,13 @@
--- `report::exports::dagmuize_put`: the tag's row, then PUT. Assumes nothing.
+-- `exports::dagmuize_put`: the tag's row, then PUT. Assumes nothing.
 use mathlib.Core.Path.{_≡_, refl, sym, ap, _∙_}
 use native.Mathlib.Omega.{arith}
 use denote.Ref.{now}
 use Rattle.log.specs.Put.{put-number, put-count}
-use Rattle.report.specs.Exports.{put-answer, put-after}
-use Rattle.report.proofs.Counts.{few-bytes}
+use Rattle.exports.specs.Exports.{put-answer, put-after}
+use Rattle.exports.proofs.Counts.{few-bytes}
 use borrow.Author.Needs.{needs}
-use Rattle.report.proofs.exports.dagmuize_put.Statement.{statement}
-use Rattle.report.proofs.exports.dagmuize_put.Tie as tie
+use Rattle.exports.proofs.dagmuize_put.Statement.{statement}
+use Rattle.exports.proofs.dagmuize_put.Tie as tie
 
 row-with-requires : tie.Need-row-with-requires
 row-with-requires c κs = search needs

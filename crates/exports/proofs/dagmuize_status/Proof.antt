@@ -1,7 +1,7 @@
--- `report::exports::dagmuize_status`: a part of what RUN answers. Assumes nothing.
+-- `exports::dagmuize_status`: a part of what RUN answers. Assumes nothing.
 use borrow.Author.Needs.{needs}
-use Rattle.report.proofs.exports.dagmuize_status.Statement.{statement}
-use Rattle.report.proofs.exports.dagmuize_status.Tie as tie
+use Rattle.exports.proofs.dagmuize_status.Statement.{statement}
+use Rattle.exports.proofs.dagmuize_status.Tie as tie
 
 run-requires : tie.Need-run-requires
 run-requires c κs = search needs
