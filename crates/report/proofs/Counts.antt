@@ -1,0 +1,36 @@
+-- A field that PUT writes has few bytes. Assumes nothing.
+use Prim.Native.Nat.{ℕ, _≤_}
+use mathlib.Core.Path.{_≡_, refl}
+use mathlib.Core.Bool.{Bool, true, false, cond}
+use mathlib.Core.List.{List}
+use native.Mathlib.Omega.{arith}
+use borrow.Author.Tests.{ltb-false}
+use lib.Dec.{eqb}
+use lib.ListN.{length}
+use Rattle.consensus.specs.Rules.{refuse}
+use Rattle.settlement.specs.declared.record.Event.the-variants.{Claim, Deliver, Step, Lose, Answer}
+use Rattle.log.specs.declared.field.Field.{Field}
+use Rattle.log.specs.declared.field.Field.the-variants.{Opening, Event, Note}
+use Rattle.log.specs.Table.{row-of}
+use Rattle.log.specs.Field.{bytes}
+use Rattle.log.specs.Put.{too-long, no-room, put-number, put-count}
+
+short : (f : Field) (note : List ℕ) → too-long f note ≡ false → length (bytes f note) ≤ 67
+unfolding bytes row-of
+short (Opening n rule) note e = omega arith
+short (Event (Claim s v)) note e = omega arith
+short (Event (Deliver t s)) note e = omega arith
+short (Event (Step s)) note e = omega arith
+short (Event (Lose s)) note e = omega arith
+short (Event (Answer b a)) note e = omega arith
+short Note note e = omega (arith, ltb-false 64 (length note) e)
+
+by-tests : (f : Field) (note : List ℕ) (long : Bool) → too-long f note ≡ long → (out : Bool)
+    → cond (eqb (refuse long 22 (refuse out 30 0)) 0) (length (bytes f note)) 0 ≤ 67
+by-tests f note true e out = omega arith
+by-tests f note false e true = omega arith
+by-tests f note false e false = short f note e
+
+pub few-bytes : (f : Field) (note buffer : List ℕ) (place : ℕ) → put-count f note buffer place ≤ 67
+unfolding put-number
+few-bytes f note buffer place = by-tests f note (too-long f note) refl (no-room f note buffer place)

@@ -1,0 +1,7 @@
+-- Laws that belong to no one function.
+--     Written   bytes after bytes in a lent buffer
+--     Decimal   how many digits a number has
+--     Counts    a field that PUT writes has few bytes
+pub mod Written
+pub mod Decimal
+pub mod Counts

@@ -1,0 +1,59 @@
+-- `report::line::put_settlement`: number by number. Assumes nothing.
+use native.Mathlib.Omega.{arith}
+use Rattle.report.specs.Text.{settlement-part}
+use Rattle.report.proofs.Written.{and-then, at-most}
+use borrow.Author.Needs.{needs}
+use Rattle.report.proofs.line.put_settlement.Statement.{statement}
+use Rattle.report.proofs.line.put_settlement.Tie as tie
+
+ballot-count-requires : tie.Need-ballot-count-requires
+ballot-count-requires c κs = search needs
+
+slice-aggregate-put-named : tie.Need-slice-aggregate-put-named
+slice-aggregate-put-named c = search needs
+
+cast-put-named : tie.Need-cast-put-named
+cast-put-named c = search needs
+
+put-named-requires : tie.Need-put-named-requires
+put-named-requires c κs = search needs
+
+slice-aggregate-put-named-2 : tie.Need-slice-aggregate-put-named-2
+slice-aggregate-put-named-2 c = search needs
+
+cast-put-named-2 : tie.Need-cast-put-named-2
+cast-put-named-2 c = search needs
+
+put-named-requires-2 : tie.Need-put-named-requires-2
+put-named-requires-2 c κs = search needs
+
+slice-aggregate-put-named-3 : tie.Need-slice-aggregate-put-named-3
+slice-aggregate-put-named-3 c = search needs
+
+put-named-requires-3 : tie.Need-put-named-requires-3
+put-named-requires-3 c κs = search needs
+
+same-length : tie.Need-same-length
+same-length c = search needs
+
+returns : tie.Need-returns
+unfolding settlement-part
+returns c =
+    rw (← c .before .before .before .before .before .before .before .before .before .before .before .before .before .before .before .before .before .ballot-count .ensures) (at-most {m = 84} (omega arith)
+    (and-then (and-then (c .before .before .before .before .before .before .before .before .before .before .before .before .before .put-named .ensures) (c .before .before .before .before .before .before .before .put-named2 .ensures)) (c .before .before .put-named3 .ensures)))
+
+pub put-settlement-spec : {M : Type 1} → statement M
+put-settlement-spec =
+    tie.close
+    (tie.spec
+    ballot-count-requires
+    slice-aggregate-put-named
+    cast-put-named
+    put-named-requires
+    slice-aggregate-put-named-2
+    cast-put-named-2
+    put-named-requires-2
+    slice-aggregate-put-named-3
+    put-named-requires-3
+    same-length
+    returns)

@@ -1,0 +1,38 @@
+-- `report::line::put_station_line`: its two parts. Assumes nothing.
+use Rattle.report.specs.Text.{station-line}
+use Rattle.report.proofs.Written.{and-then}
+use borrow.Author.Needs.{needs}
+use Rattle.report.proofs.line.put_station_line.Statement.{statement}
+use Rattle.report.proofs.line.put_station_line.Tie as tie
+
+station-at-requires : tie.Need-station-at-requires
+station-at-requires c κs = search needs
+
+look-requires : tie.Need-look-requires
+look-requires c κs = search needs
+
+put-stage-part-requires : tie.Need-put-stage-part-requires
+put-stage-part-requires c κs = search needs
+
+put-standing-part-requires : tie.Need-put-standing-part-requires
+put-standing-part-requires c κs = search needs
+
+same-length : tie.Need-same-length
+same-length c = search needs
+
+returns : tie.Need-returns
+unfolding station-line
+returns c =
+    rw (← c .before .before .before .before .before .before .before .before .before .station-at .ensures, ← c .before .before .before .before .before .before .before .before .look .ensures)
+    (and-then (c .before .before .before .before .before .before .put-stage-part .ensures) (c .before .before .put-standing-part .ensures))
+
+pub put-station-line-spec : {M : Type 1} → statement M
+put-station-line-spec =
+    tie.close
+    (tie.spec
+    station-at-requires
+    look-requires
+    put-stage-part-requires
+    put-standing-part-requires
+    same-length
+    returns)

@@ -1,0 +1,24 @@
+-- `report::text::put_text`: line one, then the stations. Assumes nothing.
+use Rattle.report.specs.Text.{text}
+use Rattle.report.proofs.Written.{and-then}
+use borrow.Author.Needs.{needs}
+use Rattle.report.proofs.text.put_text.Statement.{statement}
+use Rattle.report.proofs.text.put_text.Tie as tie
+
+put-first-line-requires : tie.Need-put-first-line-requires
+put-first-line-requires c κs = search needs
+
+put-station-lines-requires : tie.Need-put-station-lines-requires
+put-station-lines-requires c κs = search needs
+
+same-length : tie.Need-same-length
+same-length c = search needs
+
+returns : tie.Need-returns
+unfolding text
+returns c =
+    and-then (c .before .before .before .before .before .before .put-first-line .ensures) (c .before .before .put-station-lines .ensures)
+
+pub put-text-spec : {M : Type 1} → statement M
+put-text-spec =
+    tie.close (tie.spec put-first-line-requires put-station-lines-requires same-length returns)

@@ -1,0 +1,45 @@
+-- `report::text::report_of`: the text is measured on an empty part, and written where it fits. Assumes nothing.
+use denote.Ref.{now}
+use Rattle.report.proofs.Written.{fits, unfit}
+use borrow.Author.Needs.{needs}
+use Rattle.report.proofs.text.report_of.Statement.{statement}
+use Rattle.report.proofs.text.report_of.Tie as tie
+
+slice-relend-prefix-put-text : tie.Need-slice-relend-prefix-put-text
+slice-relend-prefix-put-text c = search needs
+
+slice-aggregate-put-text : tie.Need-slice-aggregate-put-text
+slice-aggregate-put-text c = search needs
+
+put-text-requires : tie.Need-put-text-requires
+put-text-requires c κs = search needs
+
+put-text-requires-2 : tie.Need-put-text-requires-2
+put-text-requires-2 c κs = search needs
+
+same-length : tie.Need-same-length
+same-length c = search needs
+
+returns : tie.Need-returns
+returns c =
+    fits (now (c .before .before .before .before .before .before .before .before .before .before .args .out)) (c .before .before .before .before .before .before .before .put-text .ensures) (c .before .before .before .before .if1 .taken) (c .before .before .put-text2 .ensures)
+
+same-length-2 : tie.Need-same-length-2
+same-length-2 c = search needs
+
+returns-2 : tie.Need-returns-2
+returns-2 c =
+    unfit (now (c .before .before .before .before .before .before .args .out)) (c .before .before .before .put-text .ensures) (c .if1 .left)
+
+pub report-of-spec : {M : Type 1} → statement M
+report-of-spec =
+    tie.close
+    (tie.spec
+    slice-relend-prefix-put-text
+    slice-aggregate-put-text
+    put-text-requires
+    put-text-requires-2
+    same-length
+    returns
+    same-length-2
+    returns-2)
