@@ -1,6 +1,6 @@
 -- Laws that belong to no one function.
 --     Written   bytes after bytes in a lent buffer
---     Decimal   how many digits a number has
+--     Decimal   the digits of a number, and how many it has
 --     Counts    a field that PUT writes has few bytes
 pub mod Written
 pub mod Decimal
