@@ -14,11 +14,11 @@ enum-told c = search needs
 
 returns : tie.Need-returns
 returns c =
-    rw (← c .before .before .before .read .ensures, c .before .taken .given .1)
+    rw (← c .before .before .before .read .ensures .answer, c .before .taken .given .1)
 
 returns-2 : tie.Need-returns-2
 returns-2 c =
-    rw (← c .before .before .read .ensures, c .enum-told .given .1)
+    rw (← c .before .before .read .ensures .answer, c .enum-told .given .1)
 
 pub dagmuize-read-taken-spec : {M : Type 1} → statement M
 dagmuize-read-taken-spec =
