@@ -2,8 +2,6 @@
 --     Written   bytes after bytes in a lent buffer
 --     Decimal   the digits of a number, and how many it has
 --     Empty     a text is never empty
---     Counts    a field that PUT writes has few bytes
 pub mod Written
 pub mod Decimal
 pub mod Empty
-pub mod Counts

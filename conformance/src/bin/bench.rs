@@ -1,0 +1,108 @@
+//! Events per second of the exported report and of the plain one, on the same logs, in turns.
+//! Nothing here fails on speed. `--self` sets the plain one beside itself.
+
+use conformance::generate::{long_list, Rng};
+use conformance::log::written;
+use conformance::plain::{run, Plain};
+use conformance::stack;
+use conformance::subject::Subject;
+use conformance::text::{settle, MOST};
+use std::hint::black_box;
+use std::time::{Duration, Instant};
+
+const SEED: u64 = 20_260_412;
+/// Turns for each log; the fastest counts, since other work on the machine only slows a turn.
+const TURNS: usize = 60;
+const TURN: Duration = Duration::from_millis(5);
+
+fn main() {
+    let Some(subject) = subject() else {
+        eprintln!("bench: built without the archive; only --self can run");
+        std::process::exit(2);
+    };
+    println!("report, events per second: release builds, {TURNS} turns each, buffers not cleared between calls;");
+    println!("the ratio is the plain one's over the library's");
+    println!("{:<34}{:>7}{:>8}{:>14}{:>14}{:>8}", "log", "bytes", "events", "library", "plain", "ratio");
+    for (name, log) in logs() {
+        one_log(subject, &name, &log);
+    }
+    let [library, plain] = [subject, &Plain].map(stack_bytes);
+    println!("stack for one report: library {library} bytes, plain {plain} bytes");
+}
+
+/// Bytes of stack under one report of 32 stations.
+fn stack_bytes(subject: &(dyn Subject + Sync)) -> usize {
+    let log = full_log(2);
+    stack::bytes_used(|| {
+        black_box(subject.report(&log, &mut vec![0; 4096]));
+    })
+}
+
+fn subject() -> Option<&'static (dyn Subject + Sync)> {
+    if std::env::args().any(|word| word == "--self") {
+        return Some(&Plain);
+    }
+    #[cfg(feature = "archive")]
+    return Some(&conformance::ffi::Archive);
+    #[cfg(not(feature = "archive"))]
+    None
+}
+
+/// Logs that end settled: for each rule, 64 KiB of 2, 8 and 32 stations with claims that come late,
+/// and 32 stations without that delay.
+fn logs() -> Vec<(String, Vec<u8>)> {
+    let mut logs = Vec::new();
+    for rule in [1, 2] {
+        for n in [2, 8, 32] {
+            logs.push((format!("{n} stations, rule {rule}, late claims"), late_log(n, rule)));
+        }
+        logs.push((format!("32 stations, rule {rule}, no delay"), full_log(rule)));
+    }
+    logs
+}
+
+/// 32 stations from their claims to the last decision.
+fn full_log(rule: u8) -> Vec<u8> {
+    written(32, rule, &long_list(&mut Rng::new(SEED), 32, rule, 0))
+}
+
+/// The longest of these logs that the program settle takes.
+fn late_log(n: u8, rule: u8) -> Vec<u8> {
+    let seeking = (0..MOST).rev().step_by(1024);
+    let log = |bytes| written(n, rule, &long_list(&mut Rng::new(SEED), n, rule, bytes));
+    seeking.map(log).find(|log| log.len() <= MOST).expect("a log that fits")
+}
+
+fn one_log(subject: &(dyn Subject + Sync), name: &str, log: &[u8]) {
+    let mut text = vec![0; 4096];
+    let written = subject.report(log, &mut text);
+    assert_eq!(settle(log).as_bytes(), &text[..written], "the library's text is not the model's");
+    assert!(settle(log).lines().skip(1).all(|line| line.contains("decided")), "a station is undecided");
+    let events = run(log, MOST).events;
+    let [library, plain] = in_turns([subject, &Plain], log, &mut text);
+    let rate = |seconds: f64| events as f64 / seconds;
+    let (size, ratio) = (log.len(), rate(plain) / rate(library));
+    println!("{name:<34}{size:>7}{events:>8}{:>14.0}{:>14.0}{ratio:>8.2}", rate(library), rate(plain));
+}
+
+/// Seconds for one report of each, the fastest of their turns.
+fn in_turns(subjects: [&dyn Subject; 2], log: &[u8], text: &mut [u8]) -> [f64; 2] {
+    let mut fastest = [f64::INFINITY; 2];
+    for _ in 0..TURNS {
+        for (i, subject) in subjects.into_iter().enumerate() {
+            fastest[i] = fastest[i].min(one_turn(subject, log, text));
+        }
+    }
+    fastest
+}
+
+/// Seconds for one report, over a turn.
+fn one_turn(subject: &dyn Subject, log: &[u8], text: &mut [u8]) -> f64 {
+    let start = Instant::now();
+    let mut reports = 0;
+    while start.elapsed() < TURN {
+        black_box(subject.report(black_box(log), text));
+        reports += 1;
+    }
+    start.elapsed().as_secs_f64() / f64::from(reports)
+}
