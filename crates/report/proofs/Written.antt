@@ -7,7 +7,7 @@ use native.Mathlib.Omega.{arith}
 use borrow.Author.Tests.{le-leb, lt-leb}
 use lib.ListN.{length, drop, set, length-append}
 use lib.Seq.{sets, sets-eq, length-sets}
-use Rattle.report.specs.Written.{Wrote, Printed}
+use Rattle.report.specs.Written.{enough, Wrote, Printed}
 
 pub sets-append : (l : List ℕ) (i : ℕ) (s t : List ℕ) → sets (sets l i s) (i + length s) t ≡ sets l i (s ++ t)
 sets-append l i [] t = rw add-zero
@@ -41,22 +41,25 @@ sets-empty i [] = refl
 sets-empty i (a ∷ t) = sets-empty (suc i) t
 
 -- A text was measured on the buffer's empty start: `need` is its length, and the buffer with that start put back is as it was.
-module _ {m need : ℕ} {e t : List ℕ} (b : List ℕ) (measured : Wrote m [] 0 t e need) where
+module _ {m need : ℕ} {e t : List ℕ} (b : List ℕ) (measured : Wrote m [] 0 t e need) (most : m ≤ enough) where
   length-of : need ≡ length t
   length-of = measured .ends ∙ omega arith
 
   put-back : e ++ b ≡ b
   put-back = ap (λ (l : List ℕ). l ++ b) (measured .bytes ∙ sets-empty 0 t)
 
+  short-text : length t ≤ enough
+  short-text = omega (arith, measured .ends, measured .short)
+
   -- it fits, and is written
   pub fits : {n k : ℕ} {b′ : List ℕ} → need ≤ length (e ++ b) → Wrote n (e ++ b) 0 t b′ k → Printed t b b′ k
   fits {k = k} {b′ = b′} room w =
       let h : length t ≤ length b = rw (length-of, put-back) at room in
       let start : b′ ≡ t ++ drop (length t) b = rw put-back at (w .bytes) ∙ sets-eq t b 0 (omega arith) ∙ rw zero-add in
-      record { written = rw (le-leb _ _ h) start; counted = rw (le-leb _ _ h) (w .ends ∙ omega arith) }
+      record { written = rw (le-leb _ _ h) start; counted = rw (le-leb _ _ h) (w .ends ∙ omega arith); short = short-text }
 
   -- it does not fit
   pub unfit : length (e ++ b) < need → Printed t b (e ++ b) 0
-  unfit short =
-      let h : length b < length t = rw (length-of, put-back) at short in
-      record { written = rw (lt-leb _ _ h) put-back; counted = rw (lt-leb _ _ h) }
+  unfit less =
+      let h : length b < length t = rw (length-of, put-back) at less in
+      record { written = rw (lt-leb _ _ h) put-back; counted = rw (lt-leb _ _ h); short = short-text }

@@ -5,8 +5,8 @@ use libc::STDOUT_FILENO;
 fn main() {
     // One byte more than the longest log, to see that there is more.
     let mut log = [0u8; 65537];
-    // Room for line one and 32 lines of stations.
-    let mut text = [0u8; 4096];
+    // Enough for any report.
+    let mut text = [0u8; 24576];
     let read = io::read_full(STDIN_FILENO, &mut log);
     let written = report::report::report(&log[..read], &mut text);
     io::write_all(STDOUT_FILENO, &text[..written]);

@@ -1,5 +1,6 @@
 -- `report::report::report_too_long`: the line is measured on an empty part, and written where it fits. Assumes nothing.
 use denote.Ref.{now}
+use lib.Dec.{lit≤}
 use Rattle.report.specs.Text.{too-long}
 use Rattle.report.proofs.Written.{fits, unfit}
 use borrow.Author.Needs.{needs}
@@ -30,7 +31,7 @@ same-length c = search needs
 returns : tie.Need-returns
 unfolding too-long
 returns c =
-    fits (now (c .before .before .before .before .before .before .before .before .before .before .before .before .args .out)) (c .before .before .before .before .before .before .before .before .put-word .ensures) (c .before .before .before .before .before .if1 .taken) (c .before .before .put-word2 .ensures)
+    fits (now (c .before .before .before .before .before .before .before .before .before .before .before .before .args .out)) (c .before .before .before .before .before .before .before .before .put-word .ensures) (lit≤ tt) (c .before .before .before .before .before .if1 .taken) (c .before .before .put-word2 .ensures)
 
 same-length-2 : tie.Need-same-length-2
 same-length-2 c = search needs
@@ -38,7 +39,7 @@ same-length-2 c = search needs
 returns-2 : tie.Need-returns-2
 unfolding too-long
 returns-2 c =
-    unfit (now (c .before .before .before .before .before .before .before .args .out)) (c .before .before .before .put-word .ensures) (c .if1 .left)
+    unfit (now (c .before .before .before .before .before .before .before .args .out)) (c .before .before .before .put-word .ensures) (lit≤ tt) (c .if1 .left)
 
 pub report-too-long-spec : {M : Type 1} → statement M
 report-too-long-spec =

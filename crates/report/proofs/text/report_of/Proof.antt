@@ -1,5 +1,6 @@
 -- `report::text::report_of`: the text is measured on an empty part, and written where it fits. Assumes nothing.
 use denote.Ref.{now}
+use lib.Dec.{lit≤}
 use Rattle.report.proofs.Written.{fits, unfit}
 use borrow.Author.Needs.{needs}
 use Rattle.report.proofs.text.report_of.Statement.{statement}
@@ -22,14 +23,14 @@ same-length c = search needs
 
 returns : tie.Need-returns
 returns c =
-    fits (now (c .before .before .before .before .before .before .before .before .before .before .args .out)) (c .before .before .before .before .before .before .before .put-text .ensures) (c .before .before .before .before .if1 .taken) (c .before .before .put-text2 .ensures)
+    fits (now (c .before .before .before .before .before .before .before .before .before .before .args .out)) (c .before .before .before .before .before .before .before .put-text .ensures) (lit≤ tt) (c .before .before .before .before .if1 .taken) (c .before .before .put-text2 .ensures)
 
 same-length-2 : tie.Need-same-length-2
 same-length-2 c = search needs
 
 returns-2 : tie.Need-returns-2
 returns-2 c =
-    unfit (now (c .before .before .before .before .before .before .args .out)) (c .before .before .before .put-text .ensures) (c .if1 .left)
+    unfit (now (c .before .before .before .before .before .before .args .out)) (c .before .before .before .put-text .ensures) (lit≤ tt) (c .if1 .left)
 
 pub report-of-spec : {M : Type 1} → statement M
 report-of-spec =
