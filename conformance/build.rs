@@ -9,9 +9,9 @@ fn main() {
     }
     let here = env::var("CARGO_MANIFEST_DIR").expect("cargo names the package's folder");
     let folder = Path::new(&here).join("../target/staticlib");
-    let archive = folder.join("libreport.a");
+    let archive = folder.join("libexports.a");
     println!("cargo:rerun-if-changed={}", archive.display());
-    assert!(archive.exists(), "target/staticlib/libreport.a is missing: `rt staticlib report` writes it");
+    assert!(archive.exists(), "target/staticlib/libexports.a is missing: `rt staticlib exports` writes it");
     println!("cargo:rustc-link-search=native={}", folder.display());
-    println!("cargo:rustc-link-lib=static=report");
+    println!("cargo:rustc-link-lib=static=exports");
 }

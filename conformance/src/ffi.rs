@@ -23,7 +23,7 @@ extern "C" {
     ) -> u32;
 }
 
-/// The archive that `rt staticlib report` writes.
+/// The archive that `rt staticlib exports` writes.
 pub struct Archive;
 
 // Safety, for every call below: each pointer and length are those of one live slice.

@@ -1,7 +1,5 @@
 -- Laws that belong to no one function.
 --     Written   bytes after bytes in a lent buffer
---     Decimal   how many digits a number has
---     Counts    a field that PUT writes has few bytes
+--     Decimal   the digits of a number, and how many it has
 pub mod Written
 pub mod Decimal
-pub mod Counts

@@ -4,10 +4,8 @@
 --     Text      the lines
 --     Report    what is printed for a log
 --     Written   bytes written into a lent buffer
---     Exports   PUT as other languages call it
 pub mod Words
 pub mod Decimal
 pub mod Text
 pub mod Report
 pub mod Written
-pub mod Exports

@@ -1,0 +1,14 @@
+-- `exports::dagmuize_events`: a part of what RUN answers. Assumes nothing.
+use borrow.Author.Needs.{needs}
+use Rattle.exports.proofs.dagmuize_events.Statement.{statement}
+use Rattle.exports.proofs.dagmuize_events.Tie as tie
+
+run-requires : tie.Need-run-requires
+run-requires c κs = search needs
+
+returns : tie.Need-returns
+returns c =
+    rw (c .run .ensures)
+
+pub dagmuize-events-spec : {M : Type 1} → statement M
+dagmuize-events-spec = tie.close (tie.spec run-requires returns)

@@ -1,0 +1,76 @@
+-- `exports::dagmuize_put`: the tag's row, then PUT. Assumes nothing.
+use mathlib.Core.Path.{_≡_, refl, sym, ap, _∙_}
+use native.Mathlib.Omega.{arith}
+use denote.Ref.{now}
+use Rattle.log.specs.Put.{put-number, put-count}
+use Rattle.exports.specs.Exports.{put-answer, put-after}
+use Rattle.exports.proofs.Counts.{few-bytes}
+use borrow.Author.Needs.{needs}
+use Rattle.exports.proofs.dagmuize_put.Statement.{statement}
+use Rattle.exports.proofs.dagmuize_put.Tie as tie
+
+row-with-requires : tie.Need-row-with-requires
+row-with-requires c κs = search needs
+
+enum-known-row : tie.Need-enum-known-row
+enum-known-row c = search needs
+
+field-asked-requires : tie.Need-field-asked-requires
+field-asked-requires c κs = search needs
+
+put-requires : tie.Need-put-requires
+put-requires c κs = search needs
+
+cast-result : tie.Need-cast-result
+cast-result c = search needs
+
+mul-result : tie.Need-mul-result
+mul-result c = search needs
+
+cast-result-2 : tie.Need-cast-result-2
+cast-result-2 c =
+    let a = c .before .before .before .before .before .before .before .before .before .before .before .before .before .args in
+    omega (arith, c .before .before .before .before .put .ensures .count, few-bytes (c .before .before .before .before .before .before .field-asked .result) (now (a .note)) (now (a .buffer)) (a .place))
+
+add-result : tie.Need-add-result
+add-result c =
+    let a = c .before .before .before .before .before .before .before .before .before .before .before .before .before .args in
+    omega (arith, c .before .before .before .before .put .ensures .count, few-bytes (c .before .before .before .before .before .before .field-asked .result) (now (a .note)) (now (a .buffer)) (a .place))
+
+enum-told : tie.Need-enum-told
+enum-told c = search needs
+
+mul-result-2 : tie.Need-mul-result-2
+mul-result-2 c = search needs
+
+same-length : tie.Need-same-length
+same-length c = search needs
+
+returns : tie.Need-returns
+unfolding put-answer put-after
+returns c =
+    let p = c .before .before .before .before .put .ensures in
+    (rw (← c .before .before .before .before .before .before .before .before .before .before .row-with .ensures, c .before .before .before .before .before .before .before .before .row .given .1, ← c .before .before .before .before .before .before .field-asked .ensures, p .number, p .count), rw (← c .before .before .before .before .before .before .before .before .before .before .row-with .ensures, c .before .before .before .before .before .before .before .before .row .given .1, ← c .before .before .before .before .before .before .field-asked .ensures) (p .written))
+
+returns-2 : tie.Need-returns-2
+unfolding put-answer put-after
+returns-2 c =
+    (rw (← c .before .before .row-with .ensures, c .enum-told .given .1), rw (← c .before .before .row-with .ensures, c .enum-told .given .1))
+
+pub dagmuize-put-spec : {M : Type 1} → statement M
+dagmuize-put-spec =
+    tie.close
+    (tie.spec
+    row-with-requires
+    enum-known-row
+    field-asked-requires
+    put-requires
+    cast-result
+    mul-result
+    cast-result-2
+    add-result
+    enum-told
+    mul-result-2
+    same-length
+    returns
+    returns-2)

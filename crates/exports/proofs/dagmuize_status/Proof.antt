@@ -1,0 +1,14 @@
+-- `exports::dagmuize_status`: a part of what RUN answers. Assumes nothing.
+use borrow.Author.Needs.{needs}
+use Rattle.exports.proofs.dagmuize_status.Statement.{statement}
+use Rattle.exports.proofs.dagmuize_status.Tie as tie
+
+run-requires : tie.Need-run-requires
+run-requires c κs = search needs
+
+returns : tie.Need-returns
+returns c =
+    rw (c .run .ensures)
+
+pub dagmuize-status-spec : {M : Type 1} → statement M
+dagmuize-status-spec = tie.close (tie.spec run-requires returns)

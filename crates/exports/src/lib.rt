@@ -1,0 +1,121 @@
+// The functions that other languages call: numbers and byte slices only.
+ghost use mathlib.Core.Path.{_≡_};
+ghost use Rattle.log.specs.Read.{found, number-of, taken-of};
+ghost use Rattle.log.specs.Run.{ran};
+ghost use Rattle.log.specs.Table.{row-with};
+ghost use Rattle.exports.specs.Exports.{asked, put-answer, put-after};
+ghost use Rattle.report.specs.Report.{report};
+ghost use Rattle.report.specs.Written.{Printed};
+use bits::word::Word;
+use log::field::Field;
+use log::put::put;
+use log::read::Reading;
+use log::read::read;
+use log::run::run;
+use log::table::Kind;
+use log::table::Known;
+use log::table::row_with;
+use report::report::report;
+use settlement::record::Event;
+
+#[no_mangle]
+pub extern "C" fn dagmuize_report(log: &[u8], out: &mut [u8]) -> usize
+    ensures { λ x. ⌜ Printed (report (now (log .entry))) (now (out .entry)) (now (out .exit)) x ⌝ }
+{
+    report(log, out)
+}
+
+// RUN's answers.
+#[no_mangle]
+pub extern "C" fn dagmuize_status(log: &[u8], limit: usize) -> u8
+    ensures { λ x. ⌜ x ≡ ran (now (log .entry)) limit .status ⌝ }
+{
+    let played = run(log, limit);
+    played.status
+}
+
+#[no_mangle]
+pub extern "C" fn dagmuize_events(log: &[u8], limit: usize) -> usize
+    ensures { λ x. ⌜ x ≡ ran (now (log .entry)) limit .events ⌝ }
+{
+    let played = run(log, limit);
+    played.events
+}
+
+#[no_mangle]
+pub extern "C" fn dagmuize_taken(log: &[u8], limit: usize) -> usize
+    ensures { λ x. ⌜ x ≡ ran (now (log .entry)) limit .taken ⌝ }
+{
+    let played = run(log, limit);
+    played.taken
+}
+
+// READ's number and the bytes that it takes.
+#[no_mangle]
+pub extern "C" fn dagmuize_read_number(log: &[u8]) -> u8
+    ensures { λ x. ⌜ x ≡ number-of (found (now (log .entry))) ⌝ }
+{
+    match read(log) {
+        Reading::Found { field: _, taken: _ } => 0,
+        Reading::Refused { number } => number,
+    }
+}
+
+#[no_mangle]
+pub extern "C" fn dagmuize_read_taken(log: &[u8]) -> usize
+    ensures { λ x. ⌜ x ≡ taken-of (found (now (log .entry))) ⌝ }
+{
+    match read(log) {
+        Reading::Found { field: _, taken } => taken,
+        Reading::Refused { number: _ } => 0,
+    }
+}
+
+// The field of a kind, with the numbers that it asks for.
+fn field_asked(kind: Kind, x: u8, y: u8, v: Word) -> Field
+    ensures { λ f. ⌜ f ≡ asked kind x y v ⌝ }
+{
+    match kind {
+        Kind::Opening => Field::Opening { n: x, rule: y },
+        Kind::Claim => Field::Event {
+            event: Event::Claim { s: x, v },
+        },
+        Kind::Deliver => Field::Event {
+            event: Event::Deliver { t: x, s: y },
+        },
+        Kind::Step => Field::Event {
+            event: Event::Step { s: x },
+        },
+        Kind::Lose => Field::Event {
+            event: Event::Lose { s: x },
+        },
+        Kind::Answer => Field::Event {
+            event: Event::Answer { b: x, a: y },
+        },
+        Kind::Note => Field::Note,
+    }
+}
+
+// PUT of the field with this tag: 65,536 times the number, and the count.
+#[no_mangle]
+pub extern "C" fn dagmuize_put(
+    tag: u8,
+    x: u8,
+    y: u8,
+    v: Word,
+    note: &[u8],
+    buffer: &mut [u8],
+    place: usize,
+) -> u32
+    ensures { λ r. ⌜ r ≡ put-answer (row-with tag) x y v (now (note .entry)) (now (buffer .entry)) place ⌝ }
+    ensures { λ r. ⌜ now (buffer .exit) ≡ put-after (row-with tag) x y v (now (note .entry)) (now (buffer .entry)) place ⌝ }
+{
+    match row_with(tag) {
+        Known::Row { row } => {
+            let kind = row.kind;
+            let placed = put(field_asked(kind, x, y, v), note, buffer, place);
+            (placed.number as u32) * 65536 + placed.count as u32
+        }
+        Known::Unknown => 21 * 65536,
+    }
+}
