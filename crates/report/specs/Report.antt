@@ -1,5 +1,5 @@
 -- What is printed for a log (document 01, "The program settle"). Assumes nothing.
-use Prim.Native.Nat.{ℕ}
+use Prim.Native.Nat.{ℕ, _<_}
 use mathlib.Core.Bool.{cond}
 use mathlib.Core.List.{List}
 use lib.Dec.{ltb}
@@ -18,3 +18,7 @@ text-of r = text (r .settlement) (r .events) (r .taken) (r .status)
 -- "A longer input prints `too long` alone."
 unfoldable pub report : List ℕ → List ℕ
 report log = cond (ltb limit (length log)) too-long (text-of (ran log limit))
+
+-- so a count of 0 says that the text did not fit
+abbrev pub Never-empty : Type 0
+Never-empty = (log : List ℕ) → 0 < length (report log)

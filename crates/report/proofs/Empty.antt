@@ -1,0 +1,26 @@
+-- A text is never empty. Assumes nothing.
+use Prim.Native.Nat.{ℕ, _<_}
+use mathlib.Core.Path.{_≡_, refl}
+use mathlib.Core.Bool.{Bool, true, false, cond}
+use mathlib.Core.List.{List}
+use native.Mathlib.Omega.{arith}
+use lib.Dec.{ltb}
+use lib.ListN.{length}
+use Rattle.settlement.specs.declared.record.Settlement.{Settlement}
+use Rattle.log.specs.Run.{ran}
+use Rattle.report.specs.Text.{settlement-part, first-line, text, too-long}
+use Rattle.report.specs.Report.{limit, text-of, report, Never-empty}
+
+text-not-empty : (r : Settlement) (events taken status : ℕ) → 0 < length (text r events taken status)
+unfolding text first-line settlement-part
+text-not-empty r events taken status = omega arith
+
+either : (b : Bool) (log : List ℕ) → 0 < length (cond b too-long (text-of (ran log limit)))
+unfolding too-long
+either true log = omega arith
+either false log =
+    text-not-empty (ran log limit .settlement) (ran log limit .events) (ran log limit .taken) (ran log limit .status)
+
+pub never-empty : Never-empty
+unfolding report
+never-empty log = either (ltb limit (length log)) log
