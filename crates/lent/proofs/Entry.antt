@@ -1,4 +1,5 @@
--- What every entry's proof has beside the walk of its code, over the widths of its numbers and its meaning: what the entry has at exit, and how its walk
+-- What every entry's proof has beside the walk of its code, over the widths of its numbers and its meaning: what the entry has at exit, and how its
+-- walk
 -- ends in the contract of an event on a lent settlement. Assumes nothing.
 use mathlib.Core.Path.{refl, subst, sym}
 use Prim.Native.Nat.{ℕ, _<_, _^_}
@@ -54,27 +55,37 @@ module _ (ws : List Width) (m : Settlement → Numbers ws → Outcome) where
       answer = m h (values 1 κs ws a)
 
       pub exits : Given 𝓤 H A → Are (rows 1 κs ws) (Ises (rows 1 κs ws)) a (spelt 1 κs ws a) → answer .number < 2 ^ 8
-          → ent 𝓤 (sep 𝓤 (A .obs γ (S.the-row .coded .code (answer .settlement))) (sep 𝓤 (A .bor (κs .0) (Body (mem S.the-row) b o γ)) (A .lft (κs .0) q))) (After (vint w8 (answer .number)))
+          → ent 𝓤 (sep 𝓤 (A .obs γ (S.the-row .coded .code (answer .settlement)))
+          (sep 𝓤 (A .bor (κs .0) (Body (mem S.the-row) b o γ)) (A .lft (κs .0) q))) (After (vint w8 (answer .number)))
       exits W are fits =
           qed W (‵ (fobs γ (S.the-row .coded .code (answer .settlement))) ∷ ‵ (fbor (κs .0) (Body (mem S.the-row) b o γ)) ∷ ‵ (flft (κs .0) q) ∷ []) ∵
-          suffices ! _ (ends-at 𝓤 H A (lent ws m) stayed (lent-says ws m 𝓤) W ((κs, (q, tt), tt, args, held), tt) (vint w8 (answer .number)) (answer .number)
+          suffices ! _
+          (ends-at 𝓤 H A (lent ws m) stayed (lent-says ws m 𝓤) W ((κs, (q, tt), tt, args, held), tt) (vint w8 (answer .number)) (answer .number)
           (answer .settlement, lasts 1 κs ws a) (tt, lasts-fit 1 κs ws a)) $ says ! refl $
           nothing ! $ move ! (3 ∷ 0 ∷ []) $ join ! $ frame ! $ feqI ! (List Val) (vptr b o ∷ []) (vptr b o ∷ []) refl $ fjoin3 ! $
-          use0 W (‵ (hasOf κs (slots 1 ws) (kept 1 ws) (stays 1 ws) a (lasts 1 κs ws a) (spelt 1 κs ws a))) (had 1 κs 𝓤 H A W ws a are) $ move ! (1 ∷ 0 ∷ []) $ fjoin ! $
+          use0 W (‵ (hasOf κs (slots 1 ws) (kept 1 ws) (stays 1 ws) a (lasts 1 κs ws a) (spelt 1 κs ws a))) (had 1 κs 𝓤 H A W ws a are) $
+          move ! (1 ∷ 0 ∷ []) $ fjoin ! $
           owned ! u8 (Is u8) (uint-makes 𝓤 H A W w8) (answer .number) _ (refl, fits) $ move ! (1 ∷ 0 ∷ []) $ done !
 
     -- a walk of the code from what stands before to what stands after, at every call
     abbrev pub Walk : Tables 𝓤 H → Fn → Type 1
-    Walk 𝓣 function = (κs : Lfts 1) (q : Share) (b o : ℕ) (γ : GName) (h : Settlement) (a : Denots (rows 1 κs ws)) → Are (rows 1 κs ws) (Ises (rows 1 κs ws)) a (spelt 1 κs ws a)
+    Walk 𝓣 function = (κs : Lfts 1) (q : Share) (b o : ℕ) (γ : GName) (h : Settlement) (a : Denots (rows 1 κs ws))
+        → Are (rows 1 κs ws) (Ises (rows 1 κs ws)) a (spelt 1 κs ws a)
         → ent 𝓤 (Before κs q b o γ h a) (WpFn 𝓤 H (𝓣 .C) (𝓣 .Λ) function (vptr b o ∷ machine ws (values 1 κs ws a)) (After κs q b o γ h a))
 
     pub meets : Given 𝓤 H A → (𝓣 : Tables 𝓤 H) (function : Fn) → Walk 𝓣 function → Triple 𝓤 (WpFn 𝓤 H (𝓣 .C) (𝓣 .Λ) function) (Lent ws m 𝓤 H A)
     meets W 𝓣 function walk =
-        walk-meets 𝓤 H A (lent ws m) stayed W (goes-ref 𝓤 H A W 1 0 tt (plain (λ _. S.the-row)), go 1 𝓤 H A W ws) (lent-says ws m 𝓤) (WpFn 𝓤 H (𝓣 .C) (𝓣 .Λ) function) (WpFn-mono 𝓤 H (W .laws) 𝓣 function)
-        (walked 𝓤 H A (lent ws m) stayed (lent-says ws m 𝓤) (WpFn 𝓤 H (𝓣 .C) (𝓣 .Λ) function) (λ κs. (ptr-vals, spells 1 κs ws)) (λ κs. (mut-tells (named 0) (κs .0) S.the-row, tell 1 κs ws))
-        (λ κs qs bounds a g are. via 𝓤 _ (fst∗ 𝓤 _ (emp 𝓤)) (in-a-row κs (qs .0) (a .0 .ptr .0) (a .0 .ptr .1) (a .0 .name) (a .0 .now) (a .1) (are .1))))
+        walk-meets 𝓤 H A (lent ws m) stayed W (goes-ref 𝓤 H A W 1 0 tt (plain (λ _. S.the-row)), go 1 𝓤 H A W ws) (lent-says ws m 𝓤)
+        (WpFn 𝓤 H (𝓣 .C) (𝓣 .Λ) function) (WpFn-mono 𝓤 H (W .laws) 𝓣 function)
+        (walked 𝓤 H A (lent ws m) stayed (lent-says ws m 𝓤) (WpFn 𝓤 H (𝓣 .C) (𝓣 .Λ) function) (λ κs. (ptr-vals, spells 1 κs ws))
+        (λ κs. (mut-tells (named 0) (κs .0) S.the-row, tell 1 κs ws))
+        (λ κs qs bounds a g are. via 𝓤 _ (fst∗ 𝓤 _ (emp 𝓤))
+        (in-a-row κs (qs .0) (a .0 .ptr .0) (a .0 .ptr .1) (a .0 .name) (a .0 .now) (a .1) (are .1))))
       where
-        in-a-row : (κs : Lfts 1) (q : Share) (b o : ℕ) (γ : GName) (h : Settlement) (a : Denots (rows 1 κs ws)) → Are (rows 1 κs ws) (Ises (rows 1 κs ws)) a (spelt 1 κs ws a)
-            → ent 𝓤 (Before κs q b o γ h a) (WpFn 𝓤 H (𝓣 .C) (𝓣 .Λ) function (vptr b o ∷ flat (rows 1 κs ws) (spelt 1 κs ws a)) (After κs q b o γ h a))
+        in-a-row : (κs : Lfts 1) (q : Share) (b o : ℕ) (γ : GName) (h : Settlement) (a : Denots (rows 1 κs ws))
+            → Are (rows 1 κs ws) (Ises (rows 1 κs ws)) a (spelt 1 κs ws a)
+            → ent 𝓤 (Before κs q b o γ h a)
+            (WpFn 𝓤 H (𝓣 .C) (𝓣 .Λ) function (vptr b o ∷ flat (rows 1 κs ws) (spelt 1 κs ws a)) (After κs q b o γ h a))
         in-a-row κs q b o γ h a are =
-            subst (λ (vs : List Val). ent 𝓤 (Before κs q b o γ h a) (WpFn 𝓤 H (𝓣 .C) (𝓣 .Λ) function (vptr b o ∷ vs) (After κs q b o γ h a))) (sym (flat-spelt 1 κs ws a)) (walk κs q b o γ h a are)
+            subst (λ (vs : List Val). ent 𝓤 (Before κs q b o γ h a) (WpFn 𝓤 H (𝓣 .C) (𝓣 .Λ) function (vptr b o ∷ vs) (After κs q b o γ h a)))
+            (sym (flat-spelt 1 κs ws a)) (walk κs q b o γ h a are)

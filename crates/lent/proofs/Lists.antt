@@ -2,7 +2,6 @@
 use Prim.Native.Nat.{ℕ}
 use mathlib.Core.Path.{_≡_, refl, sym, _∙_, ap}
 use Rattle.consensus.specs.Events.{Event, History, start, _▷_, Opening, Accepts}
-use Rattle.consensus.specs.Rules.{number, after}
 use Rattle.consensus.specs.Words.{Claims-fit}
 use Rattle.settlement.specs.declared.record.Settlement.{Settlement}
 use Rattle.settlement.specs.declared.record.Outcome.{Outcome}

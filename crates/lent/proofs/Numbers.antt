@@ -1,4 +1,5 @@
--- The numbers that an entry takes beside the settlement, at any widths: their places in a signature, their locals, and how a walk allocates, stores, passes on and frees them.
+-- The numbers that an entry takes beside the settlement, at any widths: their places in a signature, their locals, and how a walk allocates, stores,
+-- passes on and frees them.
 -- A list of numbers is one item of the walk's context.
 -- Assumes nothing.
 use mathlib.Core.Path.{_≡_, refl, ap, subst, sym}
@@ -104,9 +105,12 @@ module _ (n : ℕ) where
       make (w ∷ ws) = (uint-makes 𝓤 H A W w, make ws)
 
       -- what the numbers own at exit is had for nothing
-      pub had : (ws : List Width) (a : Denots (rows ws)) → Are (rows ws) (Ises (rows ws)) a (spelt ws a) → ent 𝓤 (emp 𝓤) (sem 𝓤 H A (hasOf κs (slots ws) (kept ws) (stays ws) a (lasts ws a) (spelt ws a)))
+      pub had : (ws : List Width) (a : Denots (rows ws)) → Are (rows ws) (Ises (rows ws)) a (spelt ws a)
+          → ent 𝓤 (emp 𝓤) (sem 𝓤 H A (hasOf κs (slots ws) (kept ws) (stays ws) a (lasts ws a) (spelt ws a)))
       had [] a are = id⊢ 𝓤 (emp 𝓤)
-      had (w ∷ ws) a are = qed W [] ∵ use0 W (‵ (hasOf κs (slots ws) (kept ws) (stays ws) (a .1) (lasts ws (a .1)) (spelt ws (a .1)))) (had ws (a .1) (are .1)) $ owned ! (UInt w) (Is (UInt w)) (uint-makes 𝓤 H A W w) (a .0) _ (are .0) $ fjoin ! $ done !
+      had (w ∷ ws) a are = qed W [] ∵
+          use0 W (‵ (hasOf κs (slots ws) (kept ws) (stays ws) (a .1) (lasts ws (a .1)) (spelt ws (a .1)))) (had ws (a .1) (are .1)) $
+          owned ! (UInt w) (Is (UInt w)) (uint-makes 𝓤 H A W w) (a .0) _ (are .0) $ fjoin ! $ done !
 
   pub go : {M : Type 1} (𝓤 : URA M) (H : Heap 𝓤) (A : Atoms 𝓤) (W : Given 𝓤 H A) (ws : List Width) → AllGo 𝓤 H A W n (slots ws) (kept ws) (stays ws)
   go 𝓤 H A W [] = tt
@@ -164,31 +168,38 @@ module _ {M : Type 1} {𝓤 : URA M} {H : Heap 𝓤} {A : Atoms 𝓤} {K : Type 
   pub pass-numbers : K → (ws : List Width) (ls ns : Numbers ws) → Fit ws ns → (E : Env 𝓤 H) {Γ : List (Item 𝓤)} {g : Goal 𝓤 H}
       → Step K W (‵ (cells ws ls ns) ∷ Γ) g (‵ (rooms ws ls) ∷ Γ) (passes (env ws ls E) (machine ws ns) g)
   pass-numbers t [] ls ns f E = step (λ s. pass0 t $ s)
-  pass-numbers t (w ∷ ws) ls ns f E = step (λ s. fsplit t $ fsplit t $ pass1 t (init t 0 refl (uint-lawful 𝓤 H A W w .typed (ns .0) _ (refl, f .0) .0)) $ fjoin t $ move t (1 ∷ 0 ∷ []) $
+  pass-numbers t (w ∷ ws) ls ns f E = step (λ s. fsplit t $ fsplit t $
+      pass1 t (init t 0 refl (uint-lawful 𝓤 H A W w .typed (ns .0) _ (refl, f .0) .0)) $ fjoin t $ move t (1 ∷ 0 ∷ []) $
       pass-numbers t ws (ls .1) (ns .1) (f .1) E $ move t (1 ∷ 0 ∷ []) $ fjoin t $ s)
 
-  pub free-numbers : K → (ws : List Width) (ls ns : Numbers ws) (E : Env 𝓤 H) {Γ : List (Item 𝓤)} {g : Goal 𝓤 H} → Step K W Γ (frees E g) (‵ (cells ws ls ns) ∷ Γ) (frees (env ws ls E) g)
+  pub free-numbers : K → (ws : List Width) (ls ns : Numbers ws) (E : Env 𝓤 H) {Γ : List (Item 𝓤)} {g : Goal 𝓤 H}
+      → Step K W Γ (frees E g) (‵ (cells ws ls ns) ∷ Γ) (frees (env ws ls E) g)
   free-numbers t [] ls ns E = step (λ s. drop t $ s)
   free-numbers t (w ∷ ws) ls ns E = step (λ s. fsplit t $ fsplit t $ forget t 0 refl $ free1 t $ free-numbers t ws (ls .1) (ns .1) E $ s)
 
   -- operands are read alike in two contexts that say the same
-  opds-in : K → {Γ Γ′ : List (Item 𝓤)} {E : Env 𝓤 H} {xs : List Operand} {vs : List Val} → ent 𝓤 (⋆ 𝓤 H A Γ) (⋆ 𝓤 H A Γ′) → ent 𝓤 (⋆ 𝓤 H A Γ′) (⋆ 𝓤 H A Γ) → Opds K W Γ′ E xs vs → Opds K W Γ E xs vs
+  opds-in : K → {Γ Γ′ : List (Item 𝓤)} {E : Env 𝓤 H} {xs : List Operand} {vs : List Val} → ent 𝓤 (⋆ 𝓤 H A Γ) (⋆ 𝓤 H A Γ′)
+      → ent 𝓤 (⋆ 𝓤 H A Γ′) (⋆ 𝓤 H A Γ) → Opds K W Γ′ E xs vs → Opds K W Γ E xs vs
   opds-in t {Γ} {Γ′} there back os = record { go = λ Kt h. via 𝓤 (⋆ 𝓤 H A Γ′) there (os .go Kt (via 𝓤 (⋆ 𝓤 H A Γ) back h)) }
 
   -- a local whose place is told
-  pub found : K → {Γ : List (Item 𝓤)} {E : Env 𝓤 H} {i : ℕ} {st : List PStep} {at sp : Spot 𝓤 H} → spotOf 𝓤 H E i ≡ at → Walks K W Γ E at st sp → Finds K W Γ E (place i st) sp
+  pub found : K → {Γ : List (Item 𝓤)} {E : Env 𝓤 H} {i : ℕ} {st : List PStep} {at sp : Spot 𝓤 H} → spotOf 𝓤 H E i ≡ at → Walks K W Γ E at st sp
+      → Finds K W Γ E (place i st) sp
   found t {Γ} {E} {i} {st} {at} {sp} e w = from t (subst (λ (z : Spot 𝓤 H). Walks K W Γ E z st sp) (sym e) w)
 
 module _ {M : Type 1} {𝓤 : URA M} {H : Heap 𝓤} {A : Atoms 𝓤} {K : Type 0} {W : Given 𝓤 H A} where
   -- the first two items of the context may stand the other way round
-  pub opds-swap : K → {i j : Item 𝓤} {Γ : List (Item 𝓤)} {E : Env 𝓤 H} {xs : List Operand} {vs : List Val} → Opds K W (j ∷ i ∷ Γ) E xs vs → Opds K W (i ∷ j ∷ Γ) E xs vs
+  pub opds-swap : K → {i j : Item 𝓤} {Γ : List (Item 𝓤)} {E : Env 𝓤 H} {xs : List Operand} {vs : List Val} → Opds K W (j ∷ i ∷ Γ) E xs vs
+      → Opds K W (i ∷ j ∷ Γ) E xs vs
   opds-swap t {i} {j} {Γ} os = opds-in t (qed W (i ∷ j ∷ Γ) ∵ move ! (1 ∷ 0 ∷ []) $ done !) (qed W (j ∷ i ∷ Γ) ∵ move ! (1 ∷ 0 ∷ []) $ done !) os
 
   -- the numbers are passed on
-  pub load-numbers : K → (ws : List Width) (ls ns : Numbers ws) (E : Env 𝓤 H) (i : ℕ) → At 𝓤 H E i ws ls → {Γ : List (Item 𝓤)} → Opds K W (‵ (cells ws ls ns) ∷ Γ) E (operands ws i) (machine ws ns)
+  pub load-numbers : K → (ws : List Width) (ls ns : Numbers ws) (E : Env 𝓤 H) (i : ℕ) → At 𝓤 H E i ws ls → {Γ : List (Item 𝓤)}
+      → Opds K W (‵ (cells ws ls ns) ∷ Γ) E (operands ws i) (machine ws ns)
   load-numbers t [] ls ns E i at = no-more t
   load-numbers t (w ∷ ws) ls ns E i at {Γ} =
       opds-in t {Γ′ = ‵ (fat fullShare (tyInt w) (ls .0) zero (vint w (ns .0))) ∷ ‵ (cells ws (ls .1) (ns .1)) ∷ ‵ (fdies (tyInt w) (ls .0)) ∷ Γ}
       (qed W (‵ (cells (w ∷ ws) ls ns) ∷ Γ) ∵ fsplit ! $ fsplit ! $ move ! (0 ∷ 2 ∷ []) $ done !)
-      (qed W (‵ (fat fullShare (tyInt w) (ls .0) zero (vint w (ns .0))) ∷ ‵ (cells ws (ls .1) (ns .1)) ∷ ‵ (fdies (tyInt w) (ls .0)) ∷ Γ) ∵ move ! (0 ∷ 2 ∷ []) $ fjoin ! $ fjoin ! $ done !)
+      (qed W (‵ (fat fullShare (tyInt w) (ls .0) zero (vint w (ns .0))) ∷ ‵ (cells ws (ls .1) (ns .1)) ∷ ‵ (fdies (tyInt w) (ls .0)) ∷ Γ) ∵
+      move ! (0 ∷ 2 ∷ []) $ fjoin ! $ fjoin ! $ done !)
       (and-then t (load t (found t (at .0) (stop t)) (look t 0 refl)) (opds-swap t (load-numbers t ws (ls .1) (ns .1) E (suc i) (at .1))))

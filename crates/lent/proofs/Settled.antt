@@ -71,7 +71,8 @@ module _ {M : Type 1} {𝓤 : URA M} {H : Heap 𝓤} {A : Atoms 𝓤} {K : Type 
   have-outcome t x is = owned t O.the-row (Is O.the-row) (LL.makes O.the-type O′.the-plain 𝓤 H A) x (outcome-val x ∷ []) is
 
   -- the cell of a settlement, and that the settlement is known
-  pub told : K → (q : Share) (h : Settlement) (vs : List Val) (b o : ℕ) → (Known h → Seq K W (‵ (cellAt q (S.the-row .mir) (vals h) b o) ∷ ‵ (S.the-row .own h (vals h)) ∷ Γ) G)
+  pub told : K → (q : Share) (h : Settlement) (vs : List Val) (b o : ℕ)
+      → (Known h → Seq K W (‵ (cellAt q (S.the-row .mir) (vals h) b o) ∷ ‵ (S.the-row .own h (vals h)) ∷ Γ) G)
       → Seq K W (‵ (cellAt q (S.the-row .mir) vs b o) ∷ ‵ (S.the-row .own h vs) ∷ Γ) G
   told t q h vs b o k =
       spelt t S.the-row (Is S.the-row) (shows 𝓤 H A S.the-row) (LL.vals S.the-type S′.the-laws) (LL.tells S.the-type S′.the-laws) q h vs b o $
@@ -79,7 +80,8 @@ module _ {M : Type 1} {𝓤 : URA M} {H : Heap 𝓤} {A : Atoms 𝓤} {K : Type 
 
   -- a callee whose contract says that its outcome is x has returned v: v is x's machine value
   pub returned : K → Soaks G → (x : Outcome) (v : Val) (Q : Outcome → SProp 𝓤) → ((r : Outcome) → ent 𝓤 (Q r) (fact 𝓤 (r ≡ x)))
-      → (Is O.the-row x (v ∷ []) → Seq K W Γ G) → Seq K W (raw (H .⇛ (ex 𝓤 (λ (r : Outcome). sep 𝓤 (sep 𝓤 (emp 𝓤) (sem 𝓤 H A (O.the-row .own r (v ∷ [])))) (Q r)))) ∷ Γ) G
+      → (Is O.the-row x (v ∷ []) → Seq K W Γ G)
+      → Seq K W (raw (H .⇛ (ex 𝓤 (λ (r : Outcome). sep 𝓤 (sep 𝓤 (emp 𝓤) (sem 𝓤 H A (O.the-row .own r (v ∷ [])))) (Q r)))) ∷ Γ) G
   returned t z x v Q says-x k =
       use1 W (later (some (λ (r : Outcome). (‵ ftrue ⊛ ‵ (O.the-row .own r (v ∷ []))) ⊛ raw (Q r)))) (id⊢ 𝓤 _) $ await t z $ pick t (λ r.
       split t $ move t (1 ∷ []) $ use1 W (raw (fact 𝓤 (r ≡ x))) (says-x r) $ heard t (r ≡ x) (λ e. split t $ drop t $
@@ -88,6 +90,7 @@ module _ {M : Type 1} {𝓤 : URA M} {H : Heap 𝓤} {A : Atoms 𝓤} {K : Type 
 module _ {M : Type 1} {𝓤 : URA M} {H : Heap 𝓤} {A : Atoms 𝓤} {K : Type 0} {W : Given 𝓤 H A} {Γ : List (Item 𝓤)} {G : Goal 𝓤 H} where
   -- a `&mut Settlement` is opened
   pub opened : K → Soaks G → {κ : Lft} {q : Share} {γ : GName} (h : Settlement) (b o : ℕ)
-      → (Known h → Seq K W (‵ (cellAt fullShare (S.the-row .mir) (vals h) b o) ∷ ‵ (S.the-row .own h (vals h)) ∷ ‵ (fobor κ q (Body (mem S.the-row) b o γ)) ∷ ‵ (fobs γ (S.the-row .coded .code h)) ∷ ‵ (fauth γ (S.the-row .coded .code h)) ∷ Γ) G)
+      → (Known h → Seq K W (‵ (cellAt fullShare (S.the-row .mir) (vals h) b o) ∷ ‵ (S.the-row .own h (vals h))
+      ∷ ‵ (fobor κ q (Body (mem S.the-row) b o γ)) ∷ ‵ (fobs γ (S.the-row .coded .code h)) ∷ ‵ (fauth γ (S.the-row .coded .code h)) ∷ Γ) G)
       → Seq K W (‵ (fobs γ (S.the-row .coded .code h)) ∷ ‵ (fbor κ (Body (mem S.the-row) b o γ)) ∷ ‵ (flft κ q) ∷ Γ) G
   opened t z h b o k = opens t z S.the-row {h = h} b o (λ vs. told t fullShare h vs b o k)

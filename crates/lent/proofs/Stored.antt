@@ -41,7 +41,8 @@ stored-body k =
     seq (assign (place 1 (deref S′.mir ∷ [])) (rvOpd (copy (place k (field 1 ∷ [])))))
     (seq (assign (place 0 []) (rvOpd (copy (place k (field 0 ∷ []))))) return)
 
-module _ {M : Type 1} {𝓤 : URA M} {H : Heap 𝓤} {A : Atoms 𝓤} {K : Type 0} {W : Given 𝓤 H A} {Γ : List (Item 𝓤)} {C : Calls 𝓤 H} {Λ : Loops 𝓤 H} {Kf : Val → SProp 𝓤}
+module _ {M : Type 1} {𝓤 : URA M} {H : Heap 𝓤} {A : Atoms 𝓤} {K : Type 0} {W : Given 𝓤 H A} {Γ : List
+    (Item 𝓤)} {C : Calls 𝓤 H} {Λ : Loops 𝓤 H} {Kf : Val → SProp 𝓤}
     (κ : Lft) (q : Share) (γ : GName) (b o : ℕ) (l₀ l₁ lₖ : ℕ) (E : Env 𝓤 H) (h : Settlement) (x : Outcome) (v : Val) where
   pub stores : K → (k : ℕ) → spotOf 𝓤 H (lent-env l₀ l₁ E) k ≡ (O′.mir, lₖ, 0) → Is O.the-row x (v ∷ [])
       → Step K W (‵ (fobs γ (S.the-row .coded .code (x .settlement))) ∷ ‵ (fbor κ (Body (mem S.the-row) b o γ)) ∷ ‵ (flft κ q)
@@ -55,8 +56,11 @@ module _ {M : Type 1} {𝓤 : URA M} {H : Heap 𝓤} {A : Atoms 𝓤} {K : Type 
       land t (found t at (stop t)) (init t 5 refl (typed-outcome 𝓤 H A W x v is)) $
       rewrite t 5 (λ (z : Val). ‵ (fat fullShare O′.mir lₖ 0 z)) (ap only (LL.tells O.the-type O′.the-laws x _ is)) refl $
       -- [the cell behind the reference; what it owns; the open borrow; obs; auth; _k; _1; room for _0]
-      assigns t (of-opd t (load t (found t at (fld t refl (stop t))) (look-in t 5 (sub t 1 refl (whole t))))) (from t (hop t (look t 6 refl) (stop t)))
+      assigns t (of-opd t (load t (found t at (fld t refl (stop t))) (look-in t 5 (sub t 1 refl (whole t)))))
+      (from t (hop t (look t 6 refl) (stop t)))
       (store-raw t 0 refl (typed 𝓤 H A W (x .settlement) (its-settlement x v is))) $
-      assigns t (of-opd t (load t (found t at (fld t refl (stop t))) (look-in t 5 (sub t 0 refl (whole t))))) (from t (stop t)) (init t 7 refl (tt, record { fits = small x v is })) $
-      move t (1 ∷ []) $ drop t $ have t (x .settlement) (its-settlement x v is) $ move t (1 ∷ 0 ∷ []) $ closes t tt S.the-row (x .settlement) (vals (x .settlement)) b o $
+      assigns t (of-opd t (load t (found t at (fld t refl (stop t))) (look-in t 5 (sub t 0 refl (whole t))))) (from t (stop t))
+      (init t 7 refl (tt, record { fits = small x v is })) $
+      move t (1 ∷ []) $ drop t $ have t (x .settlement) (its-settlement x v is) $ move t (1 ∷ 0 ∷ []) $
+      closes t tt S.the-row (x .settlement) (vals (x .settlement)) b o $
       returns t (look t 5 refl) $ forget t 3 refl $ forget t 4 refl $ forget t 5 refl $ s)

@@ -1,5 +1,5 @@
--- Lists of events on one lent settlement: "each event gets the settlement that the last one returned or left, and nobody else writes it in between" (document
--- 01, "Lists of events"). What an entry does is read off its contract. Assumes nothing.
+-- Lists of events on one lent settlement. "Each event gets the settlement that the last one returned or left, and nobody else writes it in between"
+-- (document 01, "Lists of events"). What an entry does is read off its contract. Assumes nothing.
 use Prim.Native.Nat.{ℕ}
 use mathlib.Core.Path.{_≡_}
 use Rattle.consensus.specs.Events.{Event, History, start, _▷_, Opening, Accepts}
@@ -24,7 +24,8 @@ abbrev pub Stands : Opening → History → Settlement → Type 0
 Stands o start r = (k : ℕ) × Opens (o .count) (rule-number (o .rule)) k r
 Stands o (h ▷ e) r = (r₀ : Settlement) × (k : ℕ) × Stands o h r₀ × Leaves r₀ e k r
 
--- Demand 3 of a settlement r that stands there after the list h: its words hold, and the next event's number and LOOK's answers are those that it speaks of.
+-- Demand 3 of a settlement r that stands there after the list h: its words hold, and the next event's number and LOOK's answers are those that they
+-- speak of
 pub record Demand3-lent (o : Opening) (h : History) (r : Settlement) : Type 0 where
   pub demand : Demand3-of-records o h
   pub numbers : (e : Event) (k : ℕ) (r′ : Settlement) → Leaves r e k r′ → k ≡ number o (after o h) e

@@ -84,7 +84,7 @@ fn put_run(out: &mut [u8], at: usize, events: usize, taken: usize, status: u8) -
     put_byte(out, c, b'\n')
 }
 
-pub fn put_first_line(
+pub(crate) fn put_first_line(
     out: &mut [u8],
     at: usize,
     r: Settlement,
@@ -121,7 +121,7 @@ fn put_standing_part(out: &mut [u8], at: usize, standing: Standing, lost: bool) 
     put_byte(out, c, b'\n')
 }
 
-pub fn put_station_line(out: &mut [u8], at: usize, r: Settlement, s: u8) -> usize
+pub(crate) fn put_station_line(out: &mut [u8], at: usize, r: Settlement, s: u8) -> usize
     requires { ⌜ at + 90 ≤ 65536 ⌝ }
     ensures { λ x. ⌜ Wrote 90 (now (out .entry)) at (station-line r s) (now (out .exit)) x ⌝ }
 {

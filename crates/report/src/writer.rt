@@ -7,7 +7,7 @@ ghost use Rattle.report.specs.Decimal.{decimal};
 ghost use Rattle.report.specs.Written.{Wrote};
 
 // b at a place; the next place.
-pub fn put_byte(out: &mut [u8], at: usize, b: u8) -> usize
+pub(crate) fn put_byte(out: &mut [u8], at: usize, b: u8) -> usize
     requires { ⌜ at + 1 ≤ 65536 ⌝ }
     ensures { λ x. ⌜ Wrote 1 (now (out .entry)) at (b ∷ []) (now (out .exit)) x ⌝ }
 {
@@ -18,7 +18,7 @@ pub fn put_byte(out: &mut [u8], at: usize, b: u8) -> usize
     at + 1
 }
 
-pub fn put_word(out: &mut [u8], at: usize, word: &[u8]) -> usize
+pub(crate) fn put_word(out: &mut [u8], at: usize, word: &[u8]) -> usize
     requires { ⌜ at + length (now word) ≤ 65536 ⌝ }
     ensures { λ x. ⌜ Wrote (length (now (word .entry))) (now (out .entry)) at (now (word .entry)) (now (out .exit)) x ⌝ }
 {
@@ -32,7 +32,7 @@ pub fn put_word(out: &mut [u8], at: usize, word: &[u8]) -> usize
 }
 
 // x in decimal.
-pub fn put_number(out: &mut [u8], at: usize, x: usize) -> usize
+pub(crate) fn put_number(out: &mut [u8], at: usize, x: usize) -> usize
     requires { ⌜ at + 20 ≤ 65536 ⌝ }
     ensures { λ r. ⌜ Wrote 20 (now (out .entry)) at (decimal x) (now (out .exit)) r ⌝ }
 {

@@ -20,7 +20,7 @@ use Rattle.settlement.specs.declared.record.Stage.the-variants.{Idle, Wa
 use Rattle.settlement.specs.declared.record.Station.{Station}
 use Rattle.settlement.specs.declared.record.Ballot.{Ballot}
 use Rattle.settlement.specs.declared.record.Settlement.{Settlement}
-use Rattle.settlement.specs.Record.{stationEntries, ballotEntries, entry, ballot, with-station, with-ballot, was-cast, casting, answering}
+use Rattle.settlement.specs.Record.{stationEntries, ballotEntries, blank-station, blank-ballot, entry, ballot, with-station, with-ballot, was-cast, casting, answering}
 use Rattle.settlement.specs.Link.{rule-number, stands-at, answer-in, Shows-play}
 
 -- round and word before the first vote
@@ -66,24 +66,23 @@ linked-shows o r st l = record {
 
 -- ---- one entry replaced
 
--- the entry of q once that of s is t
+-- what stands at j once x stands at i
+set-ind : {A : Type 0} (C : A → Type 0) (l : List A) (i : ℕ) (x d : A) (j : ℕ) → i < length l → (j ≡ i → C x)
+    → ((j ≡ i → ⊥) → C (getD l j d)) → C (getD (set l i x) j d)
+set-ind C l i x d j b new old =
+    by-bool (eqb j i)
+    (λ e.
+    let q = eqb-true j i e in
+    subst (λ (k : ℕ). C (getD (set l i x) k d)) (sym q) (subst C (sym (getD-set-same l i x d b)) (new q)))
+    (λ e. let ne = eqb-false j i e in subst C (sym (getD-set-other l i j x d ne)) (old ne))
+
 pub entry-ind : (C : Station → Type 0) (r : Settlement) (s : ℕ) (t : Station) (q : ℕ) → s < length (r .stations) → (q ≡ s → C t)
     → ((q ≡ s → ⊥) → C (entry r q)) → C (entry (with-station s t r) q)
-entry-ind C r s t q l new old =
-    by-bool (eqb q s)
-    (λ e.
-    let i = eqb-true q s e in
-    subst (λ (x : ℕ). C (entry (with-station s t r) x)) (sym i) (subst C (sym (getD-set-same (r .stations) s t _ l)) (new i)))
-    (λ e. let ne = eqb-false q s e in subst C (sym (getD-set-other (r .stations) s q t _ ne)) (old ne))
+entry-ind C r s t q = set-ind C (r .stations) s t blank-station q
 
 pub ballot-ind : (C : Ballot → Type 0) (r : Settlement) (b : ℕ) (t : Ballot) (c : ℕ) → b < length (r .ballots) → (c ≡ b → C t)
     → ((c ≡ b → ⊥) → C (ballot r c)) → C (ballot (with-ballot b t r) c)
-ballot-ind C r b t c l new old =
-    by-bool (eqb c b)
-    (λ e.
-    let i = eqb-true c b e in
-    subst (λ (x : ℕ). C (ballot (with-ballot b t r) x)) (sym i) (subst C (sym (getD-set-same (r .ballots) b t _ l)) (new i)))
-    (λ e. let ne = eqb-false c b e in subst C (sym (getD-set-other (r .ballots) b c t _ ne)) (old ne))
+ballot-ind C r b t c = set-ind C (r .ballots) b t blank-ballot c
 
 -- ---- a bit cast
 
