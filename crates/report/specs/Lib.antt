@@ -4,8 +4,10 @@
 --     Text      the lines
 --     Report    what is printed for a log
 --     Written   bytes written into a lent buffer
+--     CaseS     case S* of document 01
 pub mod Words
 pub mod Decimal
 pub mod Text
 pub mod Report
 pub mod Written
+pub mod CaseS
