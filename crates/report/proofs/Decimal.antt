@@ -19,7 +19,8 @@ enough (suc f) zero x h k = absurd (omega arith)
 enough (suc f) (suc g) x h k = go (ltb x 10) refl (λ p. enough f g (x / 10) (omega arith) (omega arith))
   where
     go : (b : Bool) → ltb x 10 ≡ b → (10 ≤ x → digits f (x / 10) ≡ digits g (x / 10))
-        → cond b (digit x ∷ []) (digits f (x / 10) ++ (digit (x % 10) ∷ [])) ≡ cond b (digit x ∷ []) (digits g (x / 10) ++ (digit (x % 10) ∷ []))
+        → cond b (digit x ∷ []) (digits f (x / 10) ++ (digit (x % 10) ∷ []))
+        ≡ cond b (digit x ∷ []) (digits g (x / 10) ++ (digit (x % 10) ∷ []))
     go true e rest = refl
     go false e rest = rw (rest (ltb-false x 10 e))
 
@@ -29,7 +30,9 @@ decimal-small x h = rw (lt-ltb x 10 h)
 
 pub decimal-more : (x : ℕ) → 10 ≤ x → decimal x ≡ decimal (x / 10) ++ (digit (x % 10) ∷ [])
 unfolding decimal digits
-decimal-more x h = rw (le-ltb x 10 h) (ap (λ (l : List ℕ). l ++ (digit (x % 10) ∷ [])) (enough x (suc (x / 10)) (x / 10) (omega arith) (omega arith)))
+decimal-more x h =
+    let e = enough x (suc (x / 10)) (x / 10) (omega arith) (omega arith) in
+    rw (le-ltb x 10 h) (ap (λ (l : List ℕ). l ++ (digit (x % 10) ∷ [])) e)
 
 -- a number below 10 to the n has at most n digits, for n from 1 on
 pub few-digits : (n x : ℕ) → x < 10 ^ suc n → length (decimal x) ≤ suc n
@@ -73,7 +76,9 @@ one-more x h r =
 
     each : (i : ℕ) → i < length (front ++ (digit (x % 10) ∷ [])) → (b : Bool) → ltb i (length front) ≡ b
         → (digit 0 ≤ getD (front ++ (digit (x % 10) ∷ [])) i 0) × (getD (front ++ (digit (x % 10) ∷ [])) i 0 ≤ digit 9)
-    each i p true e = rw (List·getD-append front (digit (x % 10) ∷ []) 0 i (ltb-true i (length front) e)) (r .digit-each i (ltb-true i (length front) e))
+    each i p true e =
+        let h = ltb-true i (length front) e in
+        rw (List·getD-append front (digit (x % 10) ∷ []) 0 i h) (r .digit-each i h)
     each i p false e =
         let last : i ≡ length front = omega (arith, ltb-false i (length front) e, rw length-append at p) in
         rw (last, getD-append-seam front (digit (x % 10)) [] 0) (omega arith, omega arith)

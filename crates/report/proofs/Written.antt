@@ -16,7 +16,8 @@ sets-append l i (a ∷ s) t =
     ∙ sets-append (set l i a) (suc i) s t
 
 -- t after s
-pub and-then : {m n : ℕ} {b b′ b″ s t : List ℕ} {i j k : ℕ} → Wrote m b i s b′ j → Wrote n b′ j t b″ k → Wrote (m + n) b i (s ++ t) b″ k
+pub and-then : {m n : ℕ} {b b′ b″ s t : List ℕ} {i j k : ℕ}
+    → Wrote m b i s b′ j → Wrote n b′ j t b″ k → Wrote (m + n) b i (s ++ t) b″ k
 and-then {b = b} {s = s} {t = t} {i = i} v w =
     record {
       bytes = w .bytes ∙ rw (v .bytes, v .ends) (sets-append b i s t);

@@ -29,13 +29,15 @@ mul-result c = search needs
 
 cast-result-2 : tie.Need-cast-result-2
 cast-result-2 c =
-    let a = c .before .before .before .before .before .before .before .before .before .before .before .before .before .args in
-    omega (arith, c .before .before .before .before .put .ensures .count, few-bytes (c .before .before .before .before .before .before .field-asked .result) (now (a .note)) (now (a .buffer)) (a .place))
+    let p = c .before .before .before .before in
+    let a = p .before .before .before .before .before .before .before .before .before .args in
+    omega (arith, p .put .ensures .count, few-bytes (p .before .before .field-asked .result) (now (a .note)) (now (a .buffer)) (a .place))
 
 add-result : tie.Need-add-result
 add-result c =
-    let a = c .before .before .before .before .before .before .before .before .before .before .before .before .before .args in
-    omega (arith, c .before .before .before .before .put .ensures .count, few-bytes (c .before .before .before .before .before .before .field-asked .result) (now (a .note)) (now (a .buffer)) (a .place))
+    let p = c .before .before .before .before in
+    let a = p .before .before .before .before .before .before .before .before .before .args in
+    omega (arith, p .put .ensures .count, few-bytes (p .before .before .field-asked .result) (now (a .note)) (now (a .buffer)) (a .place))
 
 enum-told : tie.Need-enum-told
 enum-told c = search needs
@@ -49,8 +51,13 @@ same-length c = search needs
 returns : tie.Need-returns
 unfolding put-answer put-after
 returns c =
-    let p = c .before .before .before .before .put .ensures in
-    (rw (← c .before .before .before .before .before .before .before .before .before .before .row-with .ensures, c .before .before .before .before .before .before .before .before .row .given .1, ← c .before .before .before .before .before .before .field-asked .ensures, p .number, p .count), rw (← c .before .before .before .before .before .before .before .before .before .before .row-with .ensures, c .before .before .before .before .before .before .before .before .row .given .1, ← c .before .before .before .before .before .before .field-asked .ensures) (p .written))
+    let p = c .before .before .before .before in
+    let f = p .before .before in
+    let row = f .before .before in
+    let known = row .before .before in (
+      rw (← known .row-with .ensures, row .row .given .1, ← f .field-asked .ensures, p .put .ensures .number, p .put .ensures .count),
+      rw (← known .row-with .ensures, row .row .given .1, ← f .field-asked .ensures) (p .put .ensures .written),
+    )
 
 returns-2 : tie.Need-returns-2
 unfolding put-answer put-after

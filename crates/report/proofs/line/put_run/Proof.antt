@@ -1,5 +1,5 @@
 -- `report::line::put_run`: number by number. Assumes nothing.
-use native.Mathlib.Omega.{arith}
+use lib.Dec.{lit≤}
 use Rattle.report.specs.Text.{run-part}
 use Rattle.report.proofs.Written.{and-then, at-most}
 use borrow.Author.Needs.{needs}
@@ -33,10 +33,11 @@ same-length c = search needs
 returns : tie.Need-returns
 unfolding run-part
 returns c =
-    at-most {m = 84} (omega arith)
-    (and-then
-    (and-then (and-then (c .before .before .before .before .before .before .before .before .before .before .before .before .before .before .before .before .put-named .ensures) (c .before .before .before .before .before .before .before .before .before .before .before .put-named2 .ensures)) (c .before .before .before .before .before .before .put-named3 .ensures))
-    (c .before .before .put-byte .ensures))
+    let third = c .before .before .before .before .before .before in
+    let second = third .before .before .before .before .before in
+    let first = second .before .before .before .before .before in
+    let events-taken = and-then (first .put-named .ensures) (second .put-named2 .ensures) in
+    at-most {m = 84} (lit≤ tt) (and-then (and-then events-taken (third .put-named3 .ensures)) (c .before .before .put-byte .ensures))
 
 pub put-run-spec : {M : Type 1} → statement M
 put-run-spec =

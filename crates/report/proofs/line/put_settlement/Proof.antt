@@ -1,5 +1,5 @@
 -- `report::line::put_settlement`: number by number. Assumes nothing.
-use native.Mathlib.Omega.{arith}
+use lib.Dec.{lit≤}
 use Rattle.report.specs.Text.{settlement-part}
 use Rattle.report.proofs.Written.{and-then, at-most}
 use borrow.Author.Needs.{needs}
@@ -39,8 +39,10 @@ same-length c = search needs
 returns : tie.Need-returns
 unfolding settlement-part
 returns c =
-    rw (← c .before .before .before .before .before .before .before .before .before .before .before .before .before .before .before .before .before .ballot-count .ensures) (at-most {m = 84} (omega arith)
-    (and-then (and-then (c .before .before .before .before .before .before .before .before .before .before .before .before .before .put-named .ensures) (c .before .before .before .before .before .before .before .put-named2 .ensures)) (c .before .before .put-named3 .ensures)))
+    let second = c .before .before .before .before .before .before .before in
+    let first = second .before .before .before .before .before .before in
+    let stations-rule = and-then (first .put-named .ensures) (second .put-named2 .ensures) in
+    rw (← first .before .before .before .before .ballot-count .ensures) (at-most {m = 84} (lit≤ tt) (and-then stations-rule (c .before .before .put-named3 .ensures)))
 
 pub put-settlement-spec : {M : Type 1} → statement M
 put-settlement-spec =

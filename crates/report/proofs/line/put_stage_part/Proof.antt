@@ -1,5 +1,5 @@
 -- `report::line::put_stage_part`: number and stage. Assumes nothing.
-use native.Mathlib.Omega.{arith}
+use lib.Dec.{lit≤}
 use Rattle.report.specs.Text.{stage-part}
 use Rattle.report.proofs.Written.{and-then, at-most}
 use borrow.Author.Needs.{needs}
@@ -24,10 +24,11 @@ same-length c = search needs
 returns : tie.Need-returns
 unfolding stage-part
 returns c =
-    at-most {m = 30} (omega arith)
-    (and-then
-    (and-then (and-then (c .before .before .before .before .before .before .before .before .before .before .before .before .before .before .put-number .ensures) (c .before .before .before .before .before .before .before .before .before .before .put-byte .ensures)) (c .before .before .before .before .before .before .put-stage .ensures))
-    (c .before .before .put-byte2 .ensures))
+    let stage = c .before .before .before .before .before .before in
+    let space = stage .before .before .before .before in
+    let number = space .before .before .before .before in
+    let number-space = and-then (number .put-number .ensures) (space .put-byte .ensures) in
+    at-most {m = 30} (lit≤ tt) (and-then (and-then number-space (stage .put-stage .ensures)) (c .before .before .put-byte2 .ensures))
 
 pub put-stage-part-spec : {M : Type 1} → statement M
 put-stage-part-spec =

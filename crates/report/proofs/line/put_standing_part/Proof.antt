@@ -1,5 +1,5 @@
 -- `report::line::put_standing_part`: decision, votes, live or lost. Assumes nothing.
-use native.Mathlib.Omega.{arith}
+use lib.Dec.{lit≤}
 use Rattle.report.specs.Text.{standing-part}
 use Rattle.report.proofs.Written.{and-then, at-most}
 use borrow.Author.Needs.{needs}
@@ -30,10 +30,11 @@ same-length c = search needs
 returns : tie.Need-returns
 unfolding standing-part
 returns c =
-    at-most {m = 53} (omega arith)
-    (and-then
-    (and-then (and-then (c .before .before .before .before .before .before .before .before .before .before .before .before .before .before .before .before .put-decision .ensures) (c .before .before .before .before .before .before .before .before .before .before .put-named .ensures)) (c .before .before .before .before .before .before .put-presence .ensures))
-    (c .before .before .put-byte .ensures))
+    let lost = c .before .before .before .before .before .before in
+    let votes = lost .before .before .before .before in
+    let decision = votes .before .before .before .before .before .before in
+    let decision-votes = and-then (decision .put-decision .ensures) (votes .put-named .ensures) in
+    at-most {m = 53} (lit≤ tt) (and-then (and-then decision-votes (lost .put-presence .ensures)) (c .before .before .put-byte .ensures))
 
 pub put-standing-part-spec : {M : Type 1} → statement M
 put-standing-part-spec =

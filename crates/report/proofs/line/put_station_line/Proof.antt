@@ -23,8 +23,9 @@ same-length c = search needs
 returns : tie.Need-returns
 unfolding station-line
 returns c =
-    rw (← c .before .before .before .before .before .before .before .before .before .station-at .ensures, ← c .before .before .before .before .before .before .before .before .look .ensures)
-    (and-then (c .before .before .before .before .before .before .put-stage-part .ensures) (c .before .before .put-standing-part .ensures))
+    let first = c .before .before .before .before .before .before in
+    rw (← first .before .before .before .station-at .ensures, ← first .before .before .look .ensures)
+    (and-then (first .put-stage-part .ensures) (c .before .before .put-standing-part .ensures))
 
 pub put-station-line-spec : {M : Type 1} → statement M
 put-station-line-spec =

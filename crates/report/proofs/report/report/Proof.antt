@@ -28,7 +28,8 @@ same-length-2 c = search needs
 returns-2 : tie.Need-returns-2
 unfolding report
 returns-2 c =
-    rw (le-ltb _ _ (c .before .before .before .before .before .before .if1 .left), ← c .before .before .before .before .before .run .ensures) (c .before .before .report-of .ensures)
+    let ran = c .before .before .before .before .before in
+    rw (le-ltb _ _ (ran .before .if1 .left), ← ran .run .ensures) (c .before .before .report-of .ensures)
 
 pub report-spec : {M : Type 1} → statement M
 report-spec =

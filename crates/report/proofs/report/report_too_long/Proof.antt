@@ -31,7 +31,8 @@ same-length c = search needs
 returns : tie.Need-returns
 unfolding too-long
 returns c =
-    fits (now (c .before .before .before .before .before .before .before .before .before .before .before .before .args .out)) (c .before .before .before .before .before .before .before .before .put-word .ensures) (lit≤ tt) (c .before .before .before .before .before .if1 .taken) (c .before .before .put-word2 .ensures)
+    let measured = c .before .before .before .before .before .before .before .before in
+    fits (now (measured .before .before .before .before .args .out)) (measured .put-word .ensures) (lit≤ tt) (c .before .before .before .before .before .if1 .taken) (c .before .before .put-word2 .ensures)
 
 same-length-2 : tie.Need-same-length-2
 same-length-2 c = search needs
