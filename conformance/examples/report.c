@@ -1,0 +1,21 @@
+/* The same as report.rs, from C: a small log is built with PUT, and its report is printed. Every function of the header is called. */
+#include <stdio.h>
+
+#include "dagmuize.h"
+
+int main(void) {
+    /* tag, two one-byte numbers, a claim: one station under rule 1 claims 5, holds its claim and takes a step */
+    static const uint32_t fields[4][4] = {{0x01, 1, 1, 0}, {0x10, 0, 0, 5}, {0x11, 0, 0, 0}, {0x12, 0, 0, 0}};
+    uint8_t log[64];
+    uint8_t text[24576];
+    size_t end = 0;
+    for (int i = 0; i < 4; i++) {
+        const uint32_t *f = fields[i];
+        uint32_t answer = dagmuize_put((uint8_t)f[0], (uint8_t)f[1], (uint8_t)f[2], f[3], text, 0, log, sizeof log, end);
+        if (answer >> 16 != 0 || dagmuize_read_number(log + end, answer & 0xffff) != 0 || dagmuize_read_taken(log + end, answer & 0xffff) != (answer & 0xffff)) return 1;
+        end += answer & 0xffff;
+    }
+    if (dagmuize_status(log, end, 3) != 0 || dagmuize_events(log, end, 3) != 3 || dagmuize_taken(log, end, 3) != end) return 2;
+    fwrite(text, 1, dagmuize_report(log, end, text, sizeof text), stdout);
+    return 0;
+}
