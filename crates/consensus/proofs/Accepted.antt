@@ -10,7 +10,7 @@ use Rattle.bits.specs.Words.{lowAgree}
 use Rattle.consensus.specs.Events.{Event, claim, deliver, step, lose, answer, History, start, _▷_, Rule, byStation, byClaim, Opening, rounds}
 use Rattle.consensus.specs.State.{Stage, idle, waiting, voting, awaiting, seeking, finish-voting, finish-awaiting, decided, Station, State, fresh, not-idle, claimed, claim-of, held, answered, bit-of, update, set-station}
 use Rattle.consensus.specs.Rules.{number, finish-ballot, spelled, first-stage, found, sought, finished, claiming, holding, losing, step-from, effect, next, after, as-bit}
-use Rattle.consensus.specs.Words.{Accepted, Put-in, Holds, Lost, Answered}
+use Rattle.consensus.specs.Terms.{Happened, Put-in, Holds, Lost, Answered}
 use Rattle.consensus.proofs.Basics.{by-bool, cond-ind, no-clash, update-ind, update-same}
 use Rattle.consensus.proofs.Reached.{next-ind, claim-accepted}
 use Rattle.consensus.proofs.Station.{next-accepted}
@@ -23,7 +23,7 @@ pub record Mark (o : Opening) (E : Event → Type 0) (φ : State → Type 0) : T
   pub unmarked : φ fresh → ⊥
 
 module _ (o : Opening) (E : Event → Type 0) (φ : State → Type 0) (m : Mark o E φ) where
-  pub marked : (h : History) (e : Event) → E e → Accepted o e h → φ (after o h)
+  pub marked : (h : History) (e : Event) → E e → Happened o e h → φ (after o h)
   unfolding after
   marked start e k a = absurd a
   marked (h ▷ f) e k (inl a) =
@@ -31,18 +31,18 @@ module _ (o : Opening) (E : Event → Type 0) (φ : State → Type 0) (m : Mark 
   marked (h ▷ f) e k (inr a) =
       subst φ (sym (next-accepted o (after o h) f (a .1))) (m .made (after o h) f (subst E (sym (a .0)) k) (a .1))
 
-  marker-step : (h : History) (f : Event) → (φ (after o h) → (e : Event) × E e × Accepted o e h) → φ (next o (after o h) f)
-      → (e : Event) × E e × Accepted o e (h ▷ f)
-  marker-step h f before = next-ind (λ (s : State). φ s → (e : Event) × E e × Accepted o e (h ▷ f)) o (after o h) f old (λ n y. new n (m .only (after o h) f n y))
+  marker-step : (h : History) (f : Event) → (φ (after o h) → (e : Event) × E e × Happened o e h) → φ (next o (after o h) f)
+      → (e : Event) × E e × Happened o e (h ▷ f)
+  marker-step h f before = next-ind (λ (s : State). φ s → (e : Event) × E e × Happened o e (h ▷ f)) o (after o h) f old (λ n y. new n (m .only (after o h) f n y))
     where
-      old : φ (after o h) → (e : Event) × E e × Accepted o e (h ▷ f)
+      old : φ (after o h) → (e : Event) × E e × Happened o e (h ▷ f)
       old y = let t = before y in (t .0, t .1, inl (t .2))
 
-      new : number o (after o h) f ≡ 0 → φ (after o h) ⊎ E f → (e : Event) × E e × Accepted o e (h ▷ f)
+      new : number o (after o h) f ≡ 0 → φ (after o h) ⊎ E f → (e : Event) × E e × Happened o e (h ▷ f)
       new n (inl y) = old y
       new n (inr k) = (f, k, inr (refl, n))
 
-  pub marker : (h : History) → φ (after o h) → (e : Event) × E e × Accepted o e h
+  pub marker : (h : History) → φ (after o h) → (e : Event) × E e × Happened o e h
   unfolding after
   marker start x = absurd (m .unmarked x)
   marker (h ▷ f) x = marker-step h f (marker h) x
@@ -142,7 +142,7 @@ module _ (o : Opening) where
   pub holds-shown : (s t : ℕ) (h : History) → Holds o s t h ↔ (held (after o h) s t ≡ true)
   holds-shown s t h = (
     λ a. marked o _ _ (held-mark s t) h _ refl a,
-    λ x. let r = marker o _ _ (held-mark s t) h x in subst (λ (e : Event). Accepted o e h) (r .1) (r .2),
+    λ x. let r = marker o _ _ (held-mark s t) h x in subst (λ (e : Event). Happened o e h) (r .1) (r .2),
   )
 
   lost-mark : (s : ℕ) → Mark o (λ e. e ≡ lose s) (λ st. st .station s .lost ≡ true)
@@ -164,7 +164,7 @@ module _ (o : Opening) where
   pub lost-shown : (s : ℕ) (h : History) → Lost o s h ↔ (after o h .station s .lost ≡ true)
   lost-shown s h = (
     λ a. marked o _ _ (lost-mark s) h _ refl a,
-    λ x. let r = marker o _ _ (lost-mark s) h x in subst (λ (e : Event). Accepted o e h) (r .1) (r .2),
+    λ x. let r = marker o _ _ (lost-mark s) h x in subst (λ (e : Event). Happened o e h) (r .1) (r .2),
   )
 
   abbrev Claims : ℕ → Station → Type 0
@@ -196,7 +196,7 @@ module _ (o : Opening) where
   pub put-in-shown : (s v : ℕ) (h : History) → Put-in o s v h ↔ ((claimed (after o h) s ≡ true) × (claim-of (after o h) s ≡ v))
   put-in-shown s v h = (
     λ a. marked o _ _ (claim-mark s v) h _ refl a,
-    λ x. let r = marker o _ _ (claim-mark s v) h x in subst (λ (e : Event). Accepted o e h) (r .1) (r .2),
+    λ x. let r = marker o _ _ (claim-mark s v) h x in subst (λ (e : Event). Happened o e h) (r .1) (r .2),
   )
 
   abbrev Answers : ℕ → Event → Type 0
@@ -234,5 +234,5 @@ module _ (o : Opening) where
   pub answered-shown : (b : ℕ) (h : History) → Answered o b h ↔ (answered (after o h .answer-of b) ≡ true)
   answered-shown b h = (
     λ a. marked o _ _ (answer-mark b) h _ (a .0, refl) (a .1),
-    λ x. let r = marker o _ _ (answer-mark b) h x in (r .1 .0, subst (λ (e : Event). Accepted o e h) (r .1 .1) (r .2)),
+    λ x. let r = marker o _ _ (answer-mark b) h x in (r .1 .0, subst (λ (e : Event). Happened o e h) (r .1 .1) (r .2)),
   )

@@ -15,7 +15,7 @@ use borrow.Author.Tests.{leb-true, leb-false}
 use Rattle.consensus.specs.Events.{History, Rule, byStation, byClaim, Opening, rounds}
 use Rattle.consensus.specs.State.{Stage, idle, waiting, voting, awaiting, seeking, finish-voting, finish-awaiting, decided, State, claimed, claim-of}
 use Rattle.consensus.specs.Rules.{finish-ballot, after}
-use Rattle.consensus.specs.Words.{decision, voted-in, answers-taken, Decided, Put-in, longest}
+use Rattle.consensus.specs.Terms.{decision, voted-in, answers-taken, Decided, Put-in, longest}
 use Rattle.consensus.specs.Demand3.{first-ballots, Ballots-voted, Same}
 use Rattle.consensus.proofs.Basics.{by-bool, no-clash}
 use Rattle.consensus.proofs.Invariant.{Word, Unfinished, Decided-by, Part-ok, votes, votes-by}

@@ -13,7 +13,7 @@ use Rattle.bits.specs.Words.{claimBits}
 use Rattle.consensus.specs.Events.{History, Rule, byStation, byClaim, Opening, rounds, ballotsOf, ballots}
 use Rattle.consensus.specs.State.{Stage, idle, waiting, voting, awaiting, seeking, finish-voting, finish-awaiting, decided, State}
 use Rattle.consensus.specs.Rules.{bit-ballot, bit-ballot-by, finish-ballot, after}
-use Rattle.consensus.specs.Words.{Claims-fit}
+use Rattle.consensus.specs.Terms.{Claims-fit}
 use Rattle.consensus.proofs.Invariant.{Unfinished, Round, Round-by, Cast-ok, Stage-ok}
 use Rattle.consensus.proofs.Reached.{reached}
 use Rattle.consensus.proofs.Longest.{claim-fits, higher-claim}

@@ -16,7 +16,7 @@ use Rattle.bits.proofs.Words.{bits-agree}
 use Rattle.consensus.specs.Events.{Event, step, History, start, _▷_, Rule, byStation, byClaim, Opening, rounds}
 use Rattle.consensus.specs.State.{Stage, idle, waiting, voting, awaiting, seeking, finish-voting, finish-awaiting, decided, Station, State, claim-of, held, bit-of}
 use Rattle.consensus.specs.Rules.{finish-ballot, spelled, first-stage, found, sought, finished, step-from, stage-number, next, after}
-use Rattle.consensus.specs.Words.{takes, Supplied, Supplied-steps, longest}
+use Rattle.consensus.specs.Terms.{takes, Supplied, Supplied-steps, longest}
 use Rattle.consensus.specs.Demand3.{most-steps}
 use Rattle.consensus.proofs.Basics.{by-bool, cond-ind, no-clash}
 use Rattle.consensus.proofs.Invariant.{Fits, Word, Seeking, Stage-ok, Part-ok}

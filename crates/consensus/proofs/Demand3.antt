@@ -10,12 +10,13 @@ use Rattle.bits.specs.Log.{ceilLog2, leastFrom}
 use Rattle.consensus.specs.Events.{Event, History, start, _▷_, Rule, byStation, byClaim, Opening}
 use Rattle.consensus.specs.State.{State, held, answered, update}
 use Rattle.consensus.specs.Rules.{any-below, stage-number, number, step-from, effect, next, after}
-use Rattle.consensus.specs.Words.{Claims-fit, takes, waits-on, Supplied, Takes-supplied, Supplied-steps}
+use Rattle.consensus.specs.Terms.{Claims-fit, takes, waits-on, Supplied, Takes-supplied, Supplied-steps}
 use Rattle.consensus.specs.Told.{Told}
 use Rattle.consensus.specs.Demand3.{Demand3, Demand3-of, No-42}
 use Rattle.consensus.specs.Examples.{opening, lone-by-station, lone-by-claim, beside-a-lost-claim, lacking-a-held-claim, Bounds-met}
 use Rattle.consensus.proofs.Basics.{by-bool, no-clash, any-found, any-none, and-true, not-false→true}
 use Rattle.consensus.proofs.Reached.{reached}
+use Rattle.consensus.proofs.Listed.{voted-told, took-told}
 use Rattle.consensus.proofs.Accepted.{put-in-shown, holds-shown, lost-shown, answered-shown}
 use Rattle.consensus.proofs.Told.{first-answer-shown, waits-shown, decided-shown, shown-decided}
 use Rattle.consensus.proofs.Longest.{fit-beginning, put-longest, longest-put}
@@ -110,6 +111,8 @@ told = record {
     is-answered = λ b. answered-shown o b h;
     first = first-answer-shown o h;
     waits = λ p. waits-shown o p h;
+    voted = λ p. voted-told o p h;
+    took = λ p. took-told o p h;
     has-decided = λ p v. (decided-shown o p v h, shown-decided o p v h);
     none-longer = λ s v a. put-longest o s v h a;
     as-long = longest-put o h;

@@ -6,13 +6,14 @@ use mathlib.Core.Bool.{Bool, true, false, cond}
 use mathlib.Core.Option.{Option, none, some, Option·some-injective, Option·none-ne-some}
 use lib.Dec.{eqb}
 use borrow.Author.Tests.{ne-eqb}
-use Rattle.consensus.specs.Events.{Event, claim, deliver, step, lose, answer, History, start, _▷_, Rule, byStation, byClaim, Opening, Accepts}
-use Rattle.consensus.specs.State.{State, idle}
+use Rattle.consensus.specs.Events.{Event, claim, deliver, step, lose, answer, History, start, _▷_, Rule, byStation, byClaim, Opening, Openable}
+use Rattle.consensus.specs.State.{Stage, State, idle, finish-voting, held}
 use Rattle.consensus.specs.Rules.{number, effect, next, after}
-use Rattle.consensus.specs.Words.{Claims-fit}
+use Rattle.consensus.specs.Terms.{Claims-fit}
 use Rattle.consensus.specs.Figure.{event}
 use Rattle.consensus.specs.Runs.{Label, broadcast, delivery, advance, crash, decide, label-of, stay, takes, run}
 use Rattle.consensus.specs.Demand2.{figure-by, figure-of, place-by, Figure-state, Shows, Step, figure-after, Demand2-of, Demand2}
+use Rattle.consensus.proofs.Invariant.{Stage-ok}
 use Rattle.consensus.proofs.Reached.{reached}
 use Rattle.consensus.proofs.Station.{next-accepted}
 use Rattle.consensus.proofs.Alike.{Verdict, both, neither}
@@ -49,7 +50,7 @@ module _ (o : Opening) (st : State) (x : Figure-state o) (e : Event) where
   )
   allowed-step y q (neither z t) = absurd (Option·none-ne-some y (sym t ∙ q))
 
-module _ (o : Opening) (ok : Accepts o) where
+module _ (o : Opening) (ok : Openable o) where
   pub shown : (h : History) → Claims-fit h → Shows o (after o h) (figure-after o h)
   unfolding after run
   shown start fit = record {
@@ -68,12 +69,18 @@ module _ (o : Opening) (ok : Accepts o) where
   pub same-verdict : (h : History) → Claims-fit h → (e : Event) → Judged o (after o h) (figure-after o h) e
   same-verdict h fit e = verdict o (after o h) (figure-after o h) (shown h fit) (reached o h) (in-bounds o h fit) ok e
 
+  -- a station that votes on a finish ballot holds its cursor's claim, by the invariant
+  holds-cursor : (h : History) (s j k d : ℕ) → after o h .station s .stage ≡ finish-voting j k d → held (after o h) s j ≡ true
+  holds-cursor h s j k d e =
+      subst (λ (g : Stage). Stage-ok o (after o h) g (after o h .station s .holds) (after o h .station s .cast)) e (reached o h .parts s .stage) .1 .mine
+
   demand2-of : (h : History) → Claims-fit h → Demand2-of o h
   unfolding after
   demand2-of h fit = record {
     shown = shown h fit;
     accepted = λ e z. accepted-step o (after o h) (figure-after o h) e z (same-verdict h fit e);
     allowed = λ e y t. allowed-step o (after o h) (figure-after o h) e y t (same-verdict h fit e);
+    line-11 = λ s j k d e. holds-cursor h s j k d e;
   }
 
 every-label : (l : Label) → (e : Event) × (label-of e ≡ some l)

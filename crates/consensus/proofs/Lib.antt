@@ -20,6 +20,7 @@ pub mod Station
 -- Demand 3:
 --     Accepted     an accepted event is what the state shows
 --     Told         what the list tells of a station is what its stage says
+--     Listed       what stands in the lists of votes and answers
 --     Longest      rounds stay below K
 --     Agree        agreement, validity, the cost in ballots
 --     Bound        what each step spends
@@ -28,6 +29,7 @@ pub mod Station
 --     Demand3      demand 3 about the play
 pub mod Accepted
 pub mod Told
+pub mod Listed
 pub mod Longest
 pub mod Agree
 pub mod Bound

@@ -15,7 +15,7 @@ use Rattle.bits.proofs.Digits.{length-pos, length-least, bit-below-length}
 use Rattle.consensus.specs.Events.{Event, claim, deliver, step, lose, answer, History, start, _▷_, Rule, byStation, byClaim, Opening}
 use Rattle.consensus.specs.State.{State, claimed, claim-of}
 use Rattle.consensus.specs.Rules.{finish-ballot, number, after}
-use Rattle.consensus.specs.Words.{Beginning, Fitting, Claims-fit, put-length, accepts, Accepted, longest}
+use Rattle.consensus.specs.Terms.{Beginning, Fitting, Claims-fit, put-length, accepts, Happened, longest}
 use Rattle.consensus.proofs.Basics.{by-bool}
 use Rattle.consensus.proofs.Invariant.{Unfinished, Finish-cast}
 use Rattle.consensus.proofs.Spelling.{finish-answer}
@@ -35,7 +35,7 @@ no-more x = max-eq-left zero-le
 
 module _ (o : Opening) where
   abbrev Longest-put : History → ℕ → Type 0
-  Longest-put h k = (k ≡ 0) ⊎ ((s : ℕ) × (v : ℕ) × Accepted o (claim s v) h × (bitLength v ≡ k))
+  Longest-put h k = (k ≡ 0) ⊎ ((s : ℕ) × (v : ℕ) × Happened o (claim s v) h × (bitLength v ≡ k))
 
   later : (h : History) (e : Event) (k : ℕ) → Longest-put h k → Longest-put (h ▷ e) k
   later h e k (inl q) = inl q
@@ -58,7 +58,7 @@ module _ (o : Opening) where
   longest-more h (lose s) x = subst (Longest-put (h ▷ lose s)) (sym (no-more (longest o h))) (later h (lose s) (longest o h) x)
   longest-more h (answer b a) x = subst (Longest-put (h ▷ answer b a)) (sym (no-more (longest o h))) (later h (answer b a) (longest o h) x)
 
-  pub put-longest : (s v : ℕ) (h : History) → Accepted o (claim s v) h → bitLength v ≤ longest o h
+  pub put-longest : (s v : ℕ) (h : History) → Happened o (claim s v) h → bitLength v ≤ longest o h
   unfolding longest
   put-longest s v start a = absurd a
   put-longest s v (h ▷ e) (inl a) = le-trans (put-longest s v h a) (le-max-left (longest o h) _)
@@ -69,12 +69,12 @@ module _ (o : Opening) where
       (le-max-right (longest o h) (put-length (accepts o h e) e))
 
   -- the larger of two lengths is one of them
-  pub longest-put : (h : History) → (longest o h ≡ 0) ⊎ ((s : ℕ) × (v : ℕ) × Accepted o (claim s v) h × (bitLength v ≡ longest o h))
+  pub longest-put : (h : History) → (longest o h ≡ 0) ⊎ ((s : ℕ) × (v : ℕ) × Happened o (claim s v) h × (bitLength v ≡ longest o h))
   unfolding longest
   longest-put start = inl refl
   longest-put (h ▷ e) = longest-more h e (longest-put h)
 
-  put-fits : (s v : ℕ) (h : History) → Claims-fit h → Accepted o (claim s v) h → v < 2 ^ claimBits
+  put-fits : (s v : ℕ) (h : History) → Claims-fit h → Happened o (claim s v) h → v < 2 ^ claimBits
   put-fits s v start f a = absurd a
   put-fits s v (h ▷ e) f (inl a) = put-fits s v h (f .0) a
   put-fits s v (h ▷ e) f (inr a) = subst Fitting (a .0) (f .1)

@@ -12,7 +12,7 @@ use Rattle.bits.specs.Words.{claimBits}
 use Rattle.consensus.specs.Events.{Event, claim, deliver, step, lose, answer, History, Rule, byClaim, Opening, rounds, ballots, ballotsOf}
 use Rattle.consensus.specs.State.{Stage, idle, waiting, voting, awaiting, seeking, finish-voting, finish-awaiting, decided, State, not-idle, claimed, held, answered}
 use Rattle.consensus.specs.Rules.{bit-ballot, finish-ballot, no-station, was-cast, as-bit, refuse, last-refusal, stage-number, number, after}
-use Rattle.consensus.specs.Words.{Claims-fit, Put-in, Lost, Decided, Supplied, waits-on}
+use Rattle.consensus.specs.Terms.{Claims-fit, Put-in, Lost, Decided, Supplied, waits-on}
 use Rattle.consensus.specs.Told.{awaited}
 use Rattle.consensus.proofs.Basics.{by-bool, no-clash}
 use Rattle.consensus.proofs.Invariant.{Part-ok, Inv}
@@ -70,7 +70,7 @@ module _ (o : Opening) (h : History) (fit : Claims-fit h) where
       ∙ passes _ 2 _ (not-true _ (λ e. live (lost-shown o p h .1 e)))
       ∙ unrefused p (stage-after o p h) (reached o h .parts p)
       (λ e. no-clash (claimed (after o h) p) (put-in-shown o p v h .0 put .0) (ap not-idle e))
-      (λ w k e. undecided w (shown-decided o p w h (ap Rattle.consensus.specs.Words.decision e)))
+      (λ w k e. undecided w (shown-decided o p w h (ap Rattle.consensus.specs.Terms.decision e)))
       own
       (λ b e. answered-shown o b h .0 (s .answers b (waits-shown o p h ∙ e)))
 

@@ -9,7 +9,7 @@ use mathlib.Core.Option.{Option, none, some}
 use native.Mathlib.Omega.{arith}
 use lib.Dec.{eqb, ltb}
 use borrow.Author.Tests.{lt-ltb}
-use Rattle.consensus.specs.Events.{Event, claim, deliver, step, lose, answer, Rule, byStation, byClaim, Opening, Accepts, ballots}
+use Rattle.consensus.specs.Events.{Event, claim, deliver, step, lose, answer, Rule, byStation, byClaim, Opening, Openable, ballots}
 use Rattle.consensus.specs.State.{Stage, idle, waiting, Station, State, not-idle, claimed, claim-of, held, answered, update, set-station}
 use Rattle.consensus.specs.Rules.{any-below, is-bit, refuse, stage-number, number, claiming, holding, losing, step-from, effect, casting, was-cast, as-bit}
 use Rattle.consensus.specs.Figure.{View, Does, blocked, goes, broadcasts, proposes, known, event}
@@ -102,7 +102,7 @@ module _ (o : Opening) where
         go true false (neither z w) = neither z (ap (with-process x s) w)
 
     -- the process s does what a STEP of the station s does
-    alike : Inv o st → Accepts o → (s : ℕ) → Alike (place-by (o .rule)) (does-at o st s (st .station s .stage)) (done (o .count) (event (figure-of o)) x s)
+    alike : Inv o st → Openable o → (s : ℕ) → Alike (place-by (o .rule)) (does-at o st s (st .station s .stage)) (done (o .count) (event (figure-of o)) x s)
     alike inv ok s =
         subst (λ (v : View). Alike (place-by (o .rule)) (does-at o st s (st .station s .stage)) (event (figure-of o) v (x .process s .place))) same
         (by (o .rule) (x .process s .place) (inv .parts s .stage) (shows .place s))
@@ -159,7 +159,7 @@ module _ (o : Opening) where
         → Verdict 0 (broadcast-by v (x .process s) e) (Claimed-now s v)
     claim-idle s v e c (both-broadcast {p = p} f) = both refl (sending v p (x .process s)) refl (claim-shows s v p f, c)
 
-    claim-inner : Inv o st → Accepts o → (s v : ℕ) → Verdict (refuse (claimed st s) 3 0) (broadcast-by v (x .process s) (does s)) (Claimed-now s v)
+    claim-inner : Inv o st → Openable o → (s v : ℕ) → Verdict (refuse (claimed st s) 3 0) (broadcast-by v (x .process s) (does s)) (Claimed-now s v)
     unfolding does-at
     claim-inner inv ok s v = go (claim-side o st s (st .station s .stage))
       where
@@ -172,7 +172,7 @@ module _ (o : Opening) where
             subst (λ (b : Bool). Verdict (refuse b 3 0) (broadcast-by v (x .process s) (does s)) (Claimed-now s v)) (sym (c .0))
             (neither (λ z. omega arith) (claim-quiet s v _ (does s) (c .1) (alike inv ok s)))
 
-    claim-verdict : Inv o st → Accepts o → (s v : ℕ) → Judged st x (claim s v)
+    claim-verdict : Inv o st → Openable o → (s v : ℕ) → Judged st x (claim s v)
     unfolding number effect happens
     claim-verdict inv ok s v =
         owned (ltb s (o .count)) (st .station s .lost) (x .process s .crashed) (refuse (claimed st s) 3 0) s (broadcast-by v (x .process s) (does s))
@@ -229,7 +229,7 @@ module _ (o : Opening) where
           holdings = refl;
         }) a)
 
-    step-verdict : Inv o st → In-bounds o st → Accepts o → (s : ℕ) → Judged st x (step s)
+    step-verdict : Inv o st → In-bounds o st → Openable o → (s : ℕ) → Judged st x (step s)
     unfolding number effect happens
     step-verdict inv within ok s =
         owned (ltb s (o .count)) (st .station s .lost) (x .process s .crashed) (stage-number o st s (st .station s .stage)) s (advance-by (x .process s) (does s))
@@ -374,7 +374,7 @@ module _ (o : Opening) where
             let f = any-found (o .count) _ c in
             lt-ltb b (ballots o) (within .ballot (f .0) b (as-bit a) (is-bit-some (as-bit a) _ (f .2)))
 
-    pub verdict : Inv o st → In-bounds o st → Accepts o → (e : Event) → Judged st x e
+    pub verdict : Inv o st → In-bounds o st → Openable o → (e : Event) → Judged st x e
     verdict inv within ok (claim s v) = claim-verdict inv ok s v
     verdict inv within ok (deliver t s) = deliver-verdict inv t s
     verdict inv within ok (step s) = step-verdict inv within ok s

@@ -5,10 +5,10 @@ use mathlib.Core.Path.{_≡_, refl, sym, subst, ap, _∙_, fun-ext}
 use mathlib.Core.Logic.{_⊎_, inl, inr}
 use mathlib.Core.Bool.{Bool, true, false, cond}
 use mathlib.Core.Option.{Option, none, some, Option·some-injective}
-use Rattle.consensus.specs.Events.{Event, claim, deliver, step, lose, answer, History, start, _▷_, Rule, byStation, byClaim, Opening, Accepts}
+use Rattle.consensus.specs.Events.{Event, claim, deliver, step, lose, answer, History, start, _▷_, Rule, byStation, byClaim, Opening, Openable}
 use Rattle.consensus.specs.State.{Stage, idle, waiting, voting, awaiting, seeking, finish-voting, finish-awaiting, decided, State, claim-of}
 use Rattle.consensus.specs.Rules.{after}
-use Rattle.consensus.specs.Words.{Fitting, Claims-fit}
+use Rattle.consensus.specs.Terms.{Fitting, Claims-fit}
 use Rattle.consensus.specs.Figure.{known, event}
 use Rattle.consensus.specs.Figure2 as two
 use Rattle.consensus.specs.System.{System, view}
@@ -66,7 +66,7 @@ shown-ready o st y inv h i =
     ready-by st (st .station i .holds) (st .station i .cast) (y .process i .prop) (o .count) (h .prop i) (o .rule) (st .station i .stage)
     (y .process i .place) (inv .parts i .stage) (h .place i)
 
-module _ (o : Opening) (ok : Accepts o) where
+module _ (o : Opening) (ok : Openable o) where
   -- the list with fewer STEPs, and the states that both lists end in
   record Gathered-list (h : History) : Type 0 where
     list : History

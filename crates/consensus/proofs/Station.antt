@@ -10,7 +10,7 @@ use borrow.Author.Tests.{eqb-true, eq-eqb}
 use Rattle.consensus.specs.Events.{Event, claim, deliver, step, lose, answer, History, start, _▷_, Opening}
 use Rattle.consensus.specs.State.{Stage, idle, waiting, Station, State, claimed, claim-of, update}
 use Rattle.consensus.specs.Rules.{number, step-from, effect, next, after, claiming, holding, losing}
-use Rattle.consensus.specs.Words.{is-step, accepts, takes}
+use Rattle.consensus.specs.Terms.{is-step, accepts, takes}
 use Rattle.consensus.proofs.Basics.{by-bool, no-clash, update-ind, update-same, and-true}
 use Rattle.consensus.proofs.Reached.{next-ind, claim-accepted, idle-of}
 

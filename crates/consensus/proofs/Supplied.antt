@@ -10,7 +10,7 @@ use native.Mathlib.Nat.{le-refl, le-trans, mul-le-mul-right}
 use Rattle.consensus.specs.Events.{Event, History, start, _▷_, Rule, byStation, byClaim, Opening, rounds}
 use Rattle.consensus.specs.State.{Stage, idle, waiting, voting, awaiting, seeking, finish-voting, finish-awaiting, decided, Station, State, not-idle, claimed, held, bit-of}
 use Rattle.consensus.specs.Rules.{finish-ballot, finished, step-from, stage-number, next, after}
-use Rattle.consensus.specs.Words.{takes, Supplied, Supplied-steps, longest}
+use Rattle.consensus.specs.Terms.{takes, Supplied, Supplied-steps, longest}
 use Rattle.consensus.specs.Demand3.{most-steps}
 use Rattle.consensus.proofs.Basics.{by-bool, no-clash}
 use Rattle.consensus.proofs.Invariant.{Part-ok, Inv, Unfinished}

@@ -15,7 +15,7 @@ use Rattle.bits.specs.Log.{ceilLog2}
 use Rattle.consensus.specs.Events.{Event, claim, deliver, step, lose, answer, History, start, _▷_, Rule, byStation, byClaim, Opening, rounds}
 use Rattle.consensus.specs.State.{Stage, idle, waiting, voting, awaiting, seeking, finish-voting, finish-awaiting, decided, Station, State, fresh, claim-of, held, answered, bit-of, update}
 use Rattle.consensus.specs.Rules.{bit-ballot, finish-ballot, spelled, as-bit, number, first-stage, found, sought, finished, step-from, stage-number, effect, next, after}
-use Rattle.consensus.specs.Words.{ballot-at, decision, given, or-else, listed, paired, with-answer, is-step, accepts, takes, first-answer, voted-in, waits-on, answers-taken, Decided}
+use Rattle.consensus.specs.Terms.{ballot-at, decision, given, or-else, listed, paired, with-answer, is-step, accepts, takes, first-answer, voted-in, waits-on, answers-taken, Decided}
 use Rattle.consensus.specs.Told.{awaited}
 use Rattle.consensus.specs.Demand3.{first-ballots}
 use Rattle.consensus.proofs.Basics.{by-bool, cond-ind, no-clash, update-ind, update-same, refused-not, not-false→true}
@@ -90,15 +90,15 @@ abbrev pub answers-count : Opening → Stage → ℕ
 answers-count o g = answers-by (o .rule) o g
 
 -- one more than m, where something comes; and that is number m
-abbrev Adds : Option ℕ → ℕ → ℕ → Type 0
+abbrev pub Adds : Option ℕ → ℕ → ℕ → Type 0
 Adds none m m' = m' ≡ m
 Adds (some b) m m' = (b ≡ m) × (m' ≡ suc m)
 
 -- a STEP from the stage g to the stage g'
-record Moves (o : Opening) (g g' : Stage) : Type 0 where
-  waits : ballot-at o g ≡ awaited o g'
-  voted : Adds (ballot-at o g) (votes o g) (votes o g')
-  answers : Adds (awaited o g) (answers-count o g) (answers-count o g')
+pub record Moves (o : Opening) (g g' : Stage) : Type 0 where
+  pub waits : ballot-at o g ≡ awaited o g'
+  pub voted : Adds (ballot-at o g) (votes o g) (votes o g')
+  pub answers : Adds (awaited o g) (answers-count o g) (answers-count o g')
 
 first-moves : (n : ℕ) (r : Rule) (s v : ℕ) → Moves (opening n r) waiting (first-stage r n s v)
 first-moves n byStation s v =
@@ -157,7 +157,7 @@ waited-answered o st s (finish-awaiting j k d) b w n =
 waited-answered o st s (decided v k) b w n = absurd (Option·none-ne-some b w)
 
 -- the ballots 0, 1, .., m - 1 with their answers
-pub answers-up-to : (ℕ → Option Bool) → ℕ → List (ℕ × Bool)
+unfoldable pub answers-up-to : (ℕ → Option Bool) → ℕ → List (ℕ × Bool)
 answers-up-to f zero = []
 answers-up-to f (suc m) = answers-up-to f m ++ ((m, bit-of (f m)) ∷ [])
 
@@ -192,7 +192,7 @@ answers-same f g zero e = refl
 answers-same f g (suc m) e =
     ap₂ (λ (l : List (ℕ × Bool)) (x : Option Bool). l ++ ((m, bit-of x) ∷ [])) (answers-same f g m (λ i l. e i (le-step l))) (e m (le-refl (suc m)))
 
-some-of : (x : Option Bool) → answered x ≡ true → (a : Bool) × (x ≡ some a)
+pub some-of : (x : Option Bool) → answered x ≡ true → (a : Bool) × (x ≡ some a)
 some-of none e = no-clash true refl (sym e)
 some-of (some a) e = (a, refl)
 
@@ -200,10 +200,10 @@ module _ (o : Opening) (p : ℕ) where
   abbrev pub stage-after : History → Stage
   stage-after h = after o h .station p .stage
 
-  taken-after : (h : History) (e : Event) → takes o p h e ≡ true → Taken o (after o h) p e
+  pub taken-after : (h : History) (e : Event) → takes o p h e ≡ true → Taken o (after o h) p e
   taken-after h e t = taken o (after o h) p e t
 
-  moves-after : (h : History) (e : Event) → takes o p h e ≡ true → Moves o (stage-after h) (stage-after (h ▷ e))
+  pub moves-after : (h : History) (e : Event) → takes o p h e ≡ true → Moves o (stage-after h) (stage-after (h ▷ e))
   unfolding after
   moves-after h e t =
       let k = taken-after h e t in
@@ -211,7 +211,7 @@ module _ (o : Opening) (p : ℕ) where
       (step-moves o (after o h) p (stage-after h) (after o h .station p) _ _ (reached o h .parts p) (step-accepted o (after o h) p (k .accepted) .stage))
 
   -- where the STEP is not p's, or is refused: what a function of the stage says of idle and of waiting is the same, so it stays
-  stays : {A : Type 0} (f : Stage → A) → f idle ≡ f waiting → (h : History) (e : Event) → takes o p h e ≡ false
+  pub stays : {A : Type 0} (f : Stage → A) → f idle ≡ f waiting → (h : History) (e : Event) → takes o p h e ≡ false
       → f (stage-after h) ≡ f (stage-after (h ▷ e))
   unfolding after
   stays f i h e t = ⊎-elim (λ s. ap f (sym s)) (λ s. ap f (s .0) ∙ i ∙ ap f (sym (s .1))) (untaken o (after o h) p e t)
@@ -247,7 +247,7 @@ module _ (o : Opening) (p : ℕ) where
   waited-after h e t b w =
       waited-answered o (after o h) p (stage-after h) b w (step-accepted o (after o h) p (taken-after h e t .accepted) .stage)
 
-  adds-below : (x : Option ℕ) (f : ℕ → Option Bool) (m m' : ℕ) → Adds x m m' → ((b : ℕ) → x ≡ some b → answered (f b) ≡ true)
+  pub adds-below : (x : Option ℕ) (f : ℕ → Option Bool) (m m' : ℕ) → Adds x m m' → ((b : ℕ) → x ≡ some b → answered (f b) ≡ true)
       → ((i : ℕ) → i < m → answered (f i) ≡ true) → (i : ℕ) → i < m' → answered (f i) ≡ true
   adds-below none f m m' e a old i l = old i (subst (λ (y : ℕ). i < y) e l)
   adds-below (some b) f m m' e a old i l =

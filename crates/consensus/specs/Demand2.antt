@@ -2,12 +2,12 @@
 -- Assumes nothing.
 use Prim.Native.Nat.{ℕ}
 use mathlib.Core.Path.{_≡_}
-use mathlib.Core.Bool.{cond}
+use mathlib.Core.Bool.{true, cond}
 use mathlib.Core.Option.{Option, none, some}
-use Rattle.consensus.specs.Events.{Event, History, _▷_, Rule, byStation, byClaim, Opening, Accepts}
+use Rattle.consensus.specs.Events.{Event, History, _▷_, Rule, byStation, byClaim, Opening, Openable}
 use Rattle.consensus.specs.State.{Stage, idle, waiting, voting, awaiting, seeking, finish-voting, finish-awaiting, decided, State, claimed, claim-of, held}
 use Rattle.consensus.specs.Rules.{number, after}
-use Rattle.consensus.specs.Words.{Claims-fit}
+use Rattle.consensus.specs.Terms.{Claims-fit}
 use Rattle.consensus.specs.Figure.{Figure, event}
 use Rattle.consensus.specs.Figure1 as one
 use Rattle.consensus.specs.Figure2 as two
@@ -75,10 +75,12 @@ module _ (o : Opening) where
     pub accepted : (e : Event) → number o (after o h) e ≡ 0 → (y : Figure-state) × Step (figure-after h) e y × Shows (after o (h ▷ e)) y
     -- "and each step those figures allow in that state is accepted"
     pub allowed : (e : Event) (y : Figure-state) → Step (figure-after h) e y → (number o (after o h) e ≡ 0) × Shows (after o (h ▷ e)) y
+    -- line 11 of figure 2 reads prop[j], and never finds ⊥ there: who stands at it holds the claim of j
+    pub line-11 : (s j k d : ℕ) → after o h .station s .stage ≡ finish-voting j k d → held (after o h) s j ≡ true
 
 -- Demand 2 about the play: every accepted opening, both rules, every list of events whose claims are claims.
 pub record Demand2 : Type 0 where
-  pub holds : (o : Opening) → Accepts o → (h : History) → Claims-fit h → Demand2-of o h
+  pub holds : (o : Opening) → Openable o → (h : History) → Claims-fit h → Demand2-of o h
   -- the events leave out nothing that may happen, and a labelled step has one outcome (a step is computed, so this is plain)
   pub every-label : (l : Label) → (e : Event) × (label-of e ≡ some l)
   pub one-outcome : (o : Opening) (x y z : Figure-state o) (e : Event) → Step o x e y → Step o x e z → y ≡ z

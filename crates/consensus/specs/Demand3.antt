@@ -2,9 +2,9 @@
 use Prim.Native.Nat.{ℕ, zero, suc, _+_, _*_, _≤_}
 use mathlib.Core.Path.{_≡_}
 use mathlib.Core.List.{List, [], _∷_, _++_, map}
-use Rattle.consensus.specs.Events.{Event, step, History, Rule, byStation, byClaim, Opening, Accepts, rounds}
+use Rattle.consensus.specs.Events.{Event, step, History, Rule, byStation, byClaim, Opening, Openable, rounds}
 use Rattle.consensus.specs.Rules.{number, after}
-use Rattle.consensus.specs.Words.{Beginning, Claims-fit, Put-in, Lost, voted-in, answers-taken, Decided, longest, Supplied, Supplied-steps}
+use Rattle.consensus.specs.Terms.{Beginning, Claims-fit, Put-in, Lost, voted-in, answers-taken, Decided, longest, Supplied, Supplied-steps}
 
 -- the ballots 0, 1, .., m - 1
 unfoldable pub first-ballots : ℕ → List ℕ
@@ -45,7 +45,7 @@ module _ (o : Opening) (h : History) where
 
 -- Demand 3 about the play: every accepted opening, both rules, every list of events whose claims are claims.
 pub record Demand3 : Type 0 where
-  pub holds : (o : Opening) → Accepts o → (h : History) → Claims-fit h → Demand3-of o h
+  pub holds : (o : Opening) → Openable o → (h : History) → Claims-fit h → Demand3-of o h
 
 -- "Taking answer 0 from ballot 63, met only by a made-up record: 42": no event of a list meets 42.
 pub record No-42 : Type 0 where

@@ -33,7 +33,7 @@ abbrev pub mostStations : ℕ
 mostStations = 32
 
 -- OPEN accepts n from 1 to 32
-pub record Accepts (o : Opening) : Type 0 where
+pub record Openable (o : Opening) : Type 0 where
   pub some-station : 1 ≤ o .count
   pub not-too-many : o .count ≤ mostStations
 

@@ -4,7 +4,7 @@ use Prim.Native.Nat.{ℕ}
 use mathlib.Core.Path.{_≡_}
 use Rattle.consensus.specs.Events.{Event, claim, deliver, step, lose, answer, History, start, _▷_, Rule, byStation, byClaim, Opening}
 use Rattle.consensus.specs.Rules.{number, after}
-use Rattle.consensus.specs.Words.{Supplied-steps}
+use Rattle.consensus.specs.Terms.{Supplied-steps}
 
 abbrev pub opening : ℕ → Rule → Opening
 opening n r = record { count = n; rule = r }

@@ -2,7 +2,7 @@
 --     Events      the events and lists of them; openings
 --     State       what the play keeps of each station and each ballot
 --     Rules       what each event is refused for, and what it does (document 01)
---     Words       the words of demand 3, read off a list of events
+--     Terms       the words of demand 3, read off a list of events
 --     Told        the words are what the play's state shows
 --     Demand3     demand 3 about the play
 --     Figure      one process of a figure: a line, and an event made of lines
@@ -16,7 +16,7 @@
 pub mod Events
 pub mod State
 pub mod Rules
-pub mod Words
+pub mod Terms
 pub mod Told
 pub mod Demand3
 pub mod Figure

@@ -4,9 +4,9 @@
 use Prim.Native.Nat.{ℕ}
 use mathlib.Core.Path.{_≡_}
 use mathlib.Core.Bool.{Bool, true, false}
-use Rattle.consensus.specs.Events.{Event, step, History, start, _▷_, Rule, Opening, Accepts}
+use Rattle.consensus.specs.Events.{Event, step, History, start, _▷_, Rule, Opening, Openable}
 use Rattle.consensus.specs.Rules.{after}
-use Rattle.consensus.specs.Words.{Claims-fit}
+use Rattle.consensus.specs.Terms.{Claims-fit}
 use Rattle.consensus.specs.Figure.{View, goes, Figure, event}
 use Rattle.consensus.specs.System.{System, moved, view}
 use Rattle.consensus.specs.Runs.{run}
@@ -46,7 +46,7 @@ module _ (o : Opening) where
     pub shown : Shows o (after o list) (figure-after o list)
 
 pub record Single-lines : Type 0 where
-  pub holds : (o : Opening) → Accepts o → (h : History) → Claims-fit h → Whole-events o h
+  pub holds : (o : Opening) → Openable o → (h : History) → Claims-fit h → Whole-events o h
   -- the other way, an event is nothing but lines: a run of whole events is a run of lines on some list with more STEPs
   pub lines : (o : Opening) (h : History) → (g : History) × Thinned h g × (lines-after o g ≡ figure-after o h)
   -- four lines after the first are enough: an event ends at a stop

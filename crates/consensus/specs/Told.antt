@@ -2,13 +2,14 @@
 use Prim.Native.Nat.{ℕ, _≤_}
 use mathlib.Core.Path.{_≡_}
 use mathlib.Core.Logic.{_↔_, _⊎_}
-use mathlib.Core.Bool.{true}
+use mathlib.Core.Bool.{Bool, true}
 use mathlib.Core.Option.{Option, none, some}
+use mathlib.Core.List.{List, [], _∷_}
 use Rattle.bits.specs.Digits.{bitLength}
 use Rattle.consensus.specs.Events.{History, Opening}
 use Rattle.consensus.specs.State.{Stage, idle, waiting, voting, awaiting, seeking, finish-voting, finish-awaiting, decided, claimed, claim-of, held, answered}
 use Rattle.consensus.specs.Rules.{bit-ballot, finish-ballot, after}
-use Rattle.consensus.specs.Words.{decision, Put-in, Holds, Lost, Answered, first-answer, waits-on, Decided, longest}
+use Rattle.consensus.specs.Terms.{decision, Put-in, Holds, Lost, Answered, first-answer, voted-in, waits-on, answers-taken, Decided, longest}
 
 -- the ballot that a station at this stage waits on
 abbrev pub awaited : Opening → Stage → Option ℕ
@@ -21,6 +22,11 @@ awaited o (finish-voting j k d) = none
 awaited o (finish-awaiting j k d) = some (finish-ballot k)
 awaited o (decided v k) = none
 
+-- x stands in the list
+abbrev pub Listed : {A : Type 0} → A → List A → Type 0
+Listed x [] = ⊥
+Listed x (y ∷ l) = (y ≡ x) ⊎ Listed x l
+
 module _ (o : Opening) (h : History) where
   pub record Words-told : Type 0 where
     pub put-in : (s v : ℕ) → Put-in o s v h ↔ ((claimed (after o h) s ≡ true) × (claim-of (after o h) s ≡ v))
@@ -29,6 +35,10 @@ module _ (o : Opening) (h : History) where
     pub is-answered : (b : ℕ) → Answered o b h ↔ (answered (after o h .answer-of b) ≡ true)
     pub first : (b : ℕ) → first-answer o h b ≡ after o h .answer-of b
     pub waits : (p : ℕ) → waits-on o p h ≡ awaited o (after o h .station p .stage)
+    -- p voted in the ballots where its bit stands, and took the answer of each but the one it waits on
+    pub voted : (p b : ℕ) → Listed b (voted-in o p h) ↔ (answered (after o h .station p .cast b) ≡ true)
+    pub took : (p b : ℕ) (a : Bool)
+        → Listed (b, a) (answers-taken o p h) ↔ (Listed b (voted-in o p h) × (waits-on o p h ≡ some b → ⊥) × (first-answer o h b ≡ some a))
     pub has-decided : (p v : ℕ) → Decided o p v h ↔ (decision (after o h .station p .stage) ≡ some v)
     -- K: no claim put in is longer, and one is as long, unless nothing was put in
     pub none-longer : (s v : ℕ) → Put-in o s v h → bitLength v ≤ longest o h

@@ -1,8 +1,8 @@
 -- Lists of events on one lent settlement. Assumes nothing.
 use Prim.Native.Nat.{ℕ}
 use mathlib.Core.Path.{_≡_, refl, sym, _∙_, ap}
-use Rattle.consensus.specs.Events.{Event, History, start, _▷_, Opening, Accepts}
-use Rattle.consensus.specs.Words.{Claims-fit}
+use Rattle.consensus.specs.Events.{Event, History, start, _▷_, Opening, Openable}
+use Rattle.consensus.specs.Terms.{Claims-fit}
 use Rattle.settlement.specs.declared.record.Settlement.{Settlement}
 use Rattle.settlement.specs.declared.record.Outcome.{Outcome}
 use Rattle.settlement.specs.Events.{opened, next, played}
@@ -37,7 +37,7 @@ unfolding record-after
 stands o start = (opened (o .count) (rule-number (o .rule)) .number, refl)
 stands o (h ▷ e) = (record-after o h, played (record-after o h) e .number, stands o h, refl)
 
-demand3 : (o : Opening) → Accepts o → (h : History) → Claims-fit h → (r : Settlement) → Stands o h r → Demand3-lent o h r
+demand3 : (o : Opening) → Openable o → (h : History) → Claims-fit h → (r : Settlement) → Stands o h r → Demand3-lent o h r
 demand3 o a h f r s = record {
   demand = demands .demand3 o a h f;
   numbers = λ e k r′ l.

@@ -2,9 +2,9 @@
 -- (document 01, "Lists of events"). What an entry does is read off its contract. Assumes nothing.
 use Prim.Native.Nat.{ℕ}
 use mathlib.Core.Path.{_≡_}
-use Rattle.consensus.specs.Events.{Event, History, start, _▷_, Opening, Accepts}
+use Rattle.consensus.specs.Events.{Event, History, start, _▷_, Opening, Openable}
 use Rattle.consensus.specs.Rules.{number, after}
-use Rattle.consensus.specs.Words.{Claims-fit}
+use Rattle.consensus.specs.Terms.{Claims-fit}
 use Rattle.settlement.specs.declared.record.Settlement.{Settlement}
 use Rattle.settlement.specs.Events.{opened, next, played}
 use Rattle.settlement.specs.Look.{looked}
@@ -38,4 +38,4 @@ pub record Lent-lists : Type 0 where
   -- a list leaves what the meanings by value leave, and some settlement stands there after every list
   pub left : (o : Opening) (h : History) (r : Settlement) → Stands o h r → r ≡ record-after o h
   pub stands : (o : Opening) (h : History) → Stands o h (record-after o h)
-  pub demand3 : (o : Opening) → Accepts o → (h : History) → Claims-fit h → (r : Settlement) → Stands o h r → Demand3-lent o h r
+  pub demand3 : (o : Opening) → Openable o → (h : History) → Claims-fit h → (r : Settlement) → Stands o h r → Demand3-lent o h r

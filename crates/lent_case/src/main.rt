@@ -1,4 +1,4 @@
-// Case S* of document 01, every event of it through the entries on a lent settlement. It writes the number of each event, and how each station then stands.
+// Document 01's case S, every event of it through the entries on a lent settlement. It writes the number of each event, and how each station then stands.
 use lent::through::play_through;
 use settlement::look::look;
 use settlement::open::open;

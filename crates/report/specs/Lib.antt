@@ -1,10 +1,10 @@
 -- What the crate `report` is about, as a reader must believe it.
---     Words     quoted text as bytes
+--     Quoted    quoted text as bytes
 --     Decimal   a number in decimal
 --     Text      the lines
 --     Report    what is printed for a log
 --     Written   bytes written into a lent buffer
-pub mod Words
+pub mod Quoted
 pub mod Decimal
 pub mod Text
 pub mod Report

@@ -9,7 +9,7 @@ use Rattle.settlement.specs.declared.record.Settlement.{Settlement}
 use Rattle.settlement.specs.declared.record.Standing.{Standing}
 use Rattle.settlement.specs.Record.{entry, ballots}
 use Rattle.settlement.specs.Look.{looked}
-use Rattle.report.specs.Words.{bytes-of}
+use Rattle.report.specs.Quoted.{bytes-of}
 use Rattle.report.specs.Decimal.{decimal}
 
 -- a number after its name

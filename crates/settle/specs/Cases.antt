@@ -15,7 +15,7 @@ use Rattle.log.specs.declared.field.Field.{Field}
 use Rattle.log.specs.declared.field.Field.the-variants.{Opening as Opens, Event as Is}
 use Rattle.log.specs.Field.{bytes}
 use Rattle.log.specs.Run.{ran}
-use Rattle.report.specs.Words.{bytes-of}
+use Rattle.report.specs.Quoted.{bytes-of}
 use Rattle.report.specs.Report.{report}
 
 -- OPEN's number; the number of an event after a list; what LOOK shows of a station after a list, all of whose events are accepted;

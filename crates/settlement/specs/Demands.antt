@@ -5,10 +5,10 @@ use mathlib.Core.Path.{_≡_}
 use mathlib.Core.Logic.{_↔_}
 use mathlib.Core.Bool.{true, false}
 use lib.ListN.{length}
-use Rattle.consensus.specs.Events.{Event, claim, deliver, step, lose, answer, History, Opening, Accepts}
+use Rattle.consensus.specs.Events.{Event, claim, deliver, step, lose, answer, History, Opening, Openable}
 use Rattle.consensus.specs.State.{State}
 use Rattle.consensus.specs.Rules.{number, after}
-use Rattle.consensus.specs.Words.{Beginning, Fitting, Claims-fit, Put-in, Lost, Decided, Supplied, voted-in}
+use Rattle.consensus.specs.Terms.{Beginning, Fitting, Claims-fit, Put-in, Lost, Decided, Supplied, voted-in}
 use Rattle.consensus.specs.Demand2.{Figure-state, Shows, Step, figure-after}
 use Rattle.consensus.specs.Demand3.{Demand3-of}
 use Rattle.settlement.specs.declared.record.Settlement.{Settlement}
@@ -69,10 +69,10 @@ blank-number (answer b a) = 9
 -- Every accepted OPEN, both rules, every list of events whose claims are claims.
 pub record Demands : Type 0 where
   -- OPEN accepts these openings, and no others
-  pub opens : (o : Opening) → Accepts o → opened (o .count) (rule-number (o .rule)) .number ≡ 0
-  pub opens-only : (n rule : ℕ) → opened n rule .number ≡ 0 → (o : Opening) × Accepts o × (o .count ≡ n) × (rule-number (o .rule) ≡ rule)
+  pub opens : (o : Opening) → Openable o → opened (o .count) (rule-number (o .rule)) .number ≡ 0
+  pub opens-only : (n rule : ℕ) → opened n rule .number ≡ 0 → (o : Opening) × Openable o × (o .count ≡ n) × (rule-number (o .rule) ≡ rule)
   -- on the blank settlement every event is refused, and not with 42
   pub blank-refuses : (e : Event) → played blank e ≡ record { number = blank-number e; settlement = blank }
-  pub sound : (o : Opening) → Accepts o → (h : History) → Claims-fit h → Sound o h
-  pub demand2 : (o : Opening) → Accepts o → (h : History) → Claims-fit h → Demand2-of-records o h
-  pub demand3 : (o : Opening) → Accepts o → (h : History) → Claims-fit h → Demand3-of-records o h
+  pub sound : (o : Opening) → Openable o → (h : History) → Claims-fit h → Sound o h
+  pub demand2 : (o : Opening) → Openable o → (h : History) → Claims-fit h → Demand2-of-records o h
+  pub demand3 : (o : Opening) → Openable o → (h : History) → Claims-fit h → Demand3-of-records o h

@@ -14,11 +14,11 @@ use lib.ListN.{length, getD, replicate, length-replicate}
 use borrow.Author.Tests.{eqb-true, eqb-false, ne-eqb, le-ltb, lt-ltb, ltb-true, ltb-false}
 use Rattle.bits.specs.Log.{ceilLog2}
 use Rattle.bits.proofs.Masks.{member-none}
-use Rattle.consensus.specs.Events.{Event, claim, deliver, step, lose, answer, History, start, _▷_, Rule, byStation, byClaim, Opening, Accepts}
+use Rattle.consensus.specs.Events.{Event, claim, deliver, step, lose, answer, History, start, _▷_, Rule, byStation, byClaim, Opening, Openable}
 use Rattle.consensus.specs.State as play
 use Rattle.consensus.specs.Rules as rules
 use Rattle.consensus.specs.Rules.{refuse, any-below}
-use Rattle.consensus.specs.Words.{decision, voted-in, Decided, Fitting, Claims-fit}
+use Rattle.consensus.specs.Terms.{decision, voted-in, Decided, Fitting, Claims-fit}
 use Rattle.consensus.proofs.Basics.{by-bool, no-clash, refused-not, not-false→true, or-false}
 use Rattle.consensus.proofs.Invariant as invariant
 use Rattle.consensus.proofs.Reached.{reached, step-accepted}
@@ -48,14 +48,14 @@ use Rattle.settlement.proofs.Link.Effects.{effect-linked}
 
 -- ---- OPEN
 
-open-accepted : (o : Opening) → Accepts o → first-met (open-tests (o .count) (rule-number (o .rule))) ≡ 0
+open-accepted : (o : Opening) → Openable o → first-met (open-tests (o .count) (rule-number (o .rule))) ≡ 0
 unfolding first-met
 open-accepted o a =
     let low : eqb (o .count) 0 ≡ false = ne-eqb (o .count) 0 (λ e. let l = a .some-station in omega arith) in
     ap₂ (λ (x y : Bool). refuse (x || y) 40 (refuse (not (eqb (rule-number (o .rule)) 1 || eqb (rule-number (o .rule)) 2)) 41 0)) low (le-ltb stationEntries (o .count) (a .not-too-many))
     ∙ ap (λ (x : Bool). refuse x 41 0) (rule-known (o .rule))
 
-opened-fresh : (o : Opening) → Accepts o
+opened-fresh : (o : Opening) → Openable o
     → opened (o .count) (rule-number (o .rule)) ≡ record { number = 0; settlement = fresh (o .count) (rule-number (o .rule)) }
 unfolding opened outcome
 opened-fresh o a = ap (λ (k : ℕ). outcome k (fresh (o .count) (rule-number (o .rule))) blank) (open-accepted o a)
@@ -65,7 +65,7 @@ all-blank zero i x = refl
 all-blank (suc n) zero x = refl
 all-blank (suc n) (suc i) x = all-blank n i x
 
-fresh-linked : (o : Opening) → Accepts o → Linked o (fresh (o .count) (rule-number (o .rule))) play.fresh
+fresh-linked : (o : Opening) → Openable o → Linked o (fresh (o .count) (rule-number (o .rule))) play.fresh
 fresh-linked o a = record {
   count = refl;
   rule = refl;
@@ -87,7 +87,7 @@ fresh-linked o a = record {
 
 -- ---- lists
 
-module _ (o : Opening) (a : Accepts o) where
+module _ (o : Opening) (a : Openable o) where
   next-linked : (r : Settlement) (st : play.State) → Linked o r st → invariant.Inv o st → Short o st → (e : Event)
       → Linked o (played r e .settlement) (rules.next o st e)
   unfolding played outcome rules.next
@@ -144,7 +144,7 @@ decided-station o s v start d = absurd d
 decided-station o s v (h ▷ e) (inl d) = decided-station o s v h d
 decided-station o s v (h ▷ e) (inr d) = step-accepted o (rules.after o h) s (taken o (rules.after o h) s e (d .0) .accepted) .station
 
-module _ (o : Opening) (a : Accepts o) (h : History) (f : Claims-fit h) where
+module _ (o : Opening) (a : Openable o) (h : History) (f : Claims-fit h) where
   abbrev r : Settlement
   r = record-after o h
 
@@ -278,7 +278,7 @@ known-rule rule e =
     by-bool (eqb rule 1) (λ x. (byStation, sym (eqb-true rule 1 x)))
     (λ x. (byClaim, sym (eqb-true rule 2 (not-false→true _ (subst (λ (b : Bool). not (b || eqb rule 2) ≡ false) x e)))))
 
-opens-only : (n rule : ℕ) → opened n rule .number ≡ 0 → (o : Opening) × Accepts o × (o .count ≡ n) × (rule-number (o .rule) ≡ rule)
+opens-only : (n rule : ℕ) → opened n rule .number ≡ 0 → (o : Opening) × Openable o × (o .count ≡ n) × (rule-number (o .rule) ≡ rule)
 unfolding opened outcome first-met
 opens-only n rule e =
     let x = refused-not (eqb n 0 || ltb stationEntries n) 40 _ refl e in

@@ -13,7 +13,7 @@ use Rattle.bits.specs.Words.{withBit, lowAgree, member, insert}
 use Rattle.bits.specs.Log.{ceilLog2}
 use Rattle.bits.proofs.Masks.{member-same, member-other}
 use Rattle.bits.proofs.Log.{log-le}
-use Rattle.consensus.specs.Events.{Event, claim, deliver, step, lose, answer, Rule, byStation, byClaim, Opening, Accepts, ballotsOf}
+use Rattle.consensus.specs.Events.{Event, claim, deliver, step, lose, answer, Rule, byStation, byClaim, Opening, Openable, ballotsOf}
 use Rattle.consensus.specs.Events as events
 use Rattle.consensus.specs.State as play
 use Rattle.consensus.specs.Rules as rules
@@ -62,7 +62,7 @@ spelled-same-by : (r : Rule) (st : play.State) (j v : ℕ) → v ≡ play.claim-
 spelled-same-by byStation st j v e = refl
 spelled-same-by byClaim st j v e = e
 
-module _ (o : Opening) (a : Accepts o) (r : Settlement) (st : play.State) (l : Linked o r st) (inv : Inv o st) (short : Short o st) where
+module _ (o : Opening) (a : Openable o) (r : Settlement) (st : play.State) (l : Linked o r st) (inv : Inv o st) (short : Short o st) where
   abbrev n : ℕ
   n = o .count
 

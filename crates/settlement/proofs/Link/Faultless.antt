@@ -8,7 +8,7 @@ use lib.Dec.{eqb, ltb, leb}
 use borrow.Author.Tests.{lt-leb, le-ltb}
 use Rattle.bits.specs.Log.{ceilLog2}
 use Rattle.bits.specs.Words.{claimBits}
-use Rattle.consensus.specs.Events.{Rule, byStation, byClaim, Opening, Accepts}
+use Rattle.consensus.specs.Events.{Rule, byStation, byClaim, Opening, Openable}
 use Rattle.consensus.specs.State as play
 use Rattle.consensus.specs.Rules.{any-below}
 use Rattle.consensus.proofs.Basics.{by-bool, no-clash, any-found}
@@ -65,7 +65,7 @@ pub rule-known : (r : Rule) → not (eqb (rule-number r) 1 || eqb (rule-number r
 rule-known byStation = refl
 rule-known byClaim = refl
 
-module _ (o : Opening) (a : Accepts o) (r : Settlement) (st : play.State) (l : Linked o r st) (inv : Inv o st) (short : Short o st) where
+module _ (o : Opening) (a : Openable o) (r : Settlement) (st : play.State) (l : Linked o r st) (inv : Inv o st) (short : Short o st) where
   entry-clear : (s : ℕ) → s < o .count → station-fault (o .count) (rule-number (o .rule)) (entry r s) ≡ false
   entry-clear s b =
       let t = entry r s in

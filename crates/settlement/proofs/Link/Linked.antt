@@ -10,7 +10,7 @@ use lib.Dec.{eqb}
 use lib.ListN.{length, getD, set, length-set}
 use lib.Seq.{getD-set-same, getD-set-other}
 use Rattle.bits.specs.Words.{member}
-use Rattle.consensus.specs.Events.{Rule, byStation, byClaim, Opening, Accepts}
+use Rattle.consensus.specs.Events.{Rule, byStation, byClaim, Opening, Openable}
 use Rattle.consensus.specs.State as play
 use Rattle.consensus.specs.Rules.{any-below, is-bit}
 use borrow.Author.Tests.{eqb-true, eqb-false}
@@ -106,7 +106,7 @@ cast-other true false t e = refl
 cast-other false true t e = refl
 cast-other false false t e = no-clash true refl e
 
-module _ (o : Opening) (a : Accepts o) (r : Settlement) (st : play.State) (l : Linked o r st) where
+module _ (o : Opening) (a : Openable o) (r : Settlement) (st : play.State) (l : Linked o r st) where
   station-inside : (s : ℕ) → s < o .count → s < length (r .stations)
   station-inside s b = subst (λ (x : ℕ). s < x) (sym (l .stations)) (lt-of-lt-of-le b (a .not-too-many))
 

@@ -10,7 +10,7 @@ use lib.Dec.{eqb, ltb, eqb·suc-suc}
 use borrow.Author.Tests.{ne-eqb}
 use Rattle.bits.specs.Log.{ceilLog2}
 use Rattle.bits.specs.Words.{member}
-use Rattle.consensus.specs.Events.{Event, claim, deliver, step, lose, answer, Rule, byStation, byClaim, Opening, Accepts, ballotsOf}
+use Rattle.consensus.specs.Events.{Event, claim, deliver, step, lose, answer, Rule, byStation, byClaim, Opening, Openable, ballotsOf}
 use Rattle.consensus.specs.Events as events
 use Rattle.consensus.specs.State as play
 use Rattle.consensus.specs.Rules as rules
@@ -60,7 +60,7 @@ ballots-same : (r : Rule) (n : ℕ) → 0 < n → cond (eqb n 0) 0 (cond (eqb (r
 ballots-same byStation n l = ap (λ (b : Bool). cond b 0 (ceilLog2 n)) (ne-eqb n 0 (λ e. omega arith))
 ballots-same byClaim n l = ap (λ (b : Bool). cond b 0 ballotEntries) (ne-eqb n 0 (λ e. omega arith))
 
-module _ (o : Opening) (a : Accepts o) (r : Settlement) (st : play.State) (l : Linked o r st) (inv : Inv o st) where
+module _ (o : Opening) (a : Openable o) (r : Settlement) (st : play.State) (l : Linked o r st) (inv : Inv o st) where
   pub no-station-same : (s : ℕ) → no-station r s ≡ rules.no-station o s
   no-station-same s = ap (λ (n : ℕ). not (ltb s n)) (l .count)
 

@@ -102,22 +102,22 @@ module _ (o : Opening) where
   accepts h e = eqb (number o (after o h) e) 0
 
   -- the event e was accepted somewhere in the list
-  abbrev pub Accepted : Event → History → Type 0
-  Accepted e start = ⊥
-  Accepted e (h ▷ f) = Accepted e h ⊎ ((f ≡ e) × (number o (after o h) f ≡ 0))
+  abbrev pub Happened : Event → History → Type 0
+  Happened e start = ⊥
+  Happened e (h ▷ f) = Happened e h ⊎ ((f ≡ e) × (number o (after o h) f ≡ 0))
 
   -- s put in the claim v; s holds the claim of t; s is lost; b is answered
   abbrev pub Put-in : ℕ → ℕ → History → Type 0
-  Put-in s v h = Accepted (claim s v) h
+  Put-in s v h = Happened (claim s v) h
 
   abbrev pub Holds : ℕ → ℕ → History → Type 0
-  Holds s t h = Accepted (deliver t s) h
+  Holds s t h = Happened (deliver t s) h
 
   abbrev pub Lost : ℕ → History → Type 0
-  Lost s h = Accepted (lose s) h
+  Lost s h = Happened (lose s) h
 
   abbrev pub Answered : ℕ → History → Type 0
-  Answered b h = (a : ℕ) × Accepted (answer b a) h
+  Answered b h = (a : ℕ) × Happened (answer b a) h
 
   -- the bit that b was answered with: the first accepted ANSWER gives it
   unfoldable pub first-answer : History → ℕ → Option Bool
