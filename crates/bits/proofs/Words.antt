@@ -160,8 +160,10 @@ lowAgree-mod k a b =
 
 pub bit-laws : BitLaws
 bit-laws = record {
+  lowest-bit = bit-low;
+  higher-bits = bit-step;
   written = bit-same;
   unchanged = bit-other;
-  spelled = bit-ext;
+  determined = bit-ext;
   compared = λ k a b. (agree-bits k a b, bits-agree k a b);
 }

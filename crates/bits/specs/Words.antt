@@ -1,11 +1,11 @@
 -- One bit changed, and the low bits of two numbers compared (paper 000, section 3: writing j[k], and j[k..0]);
 -- the same for words of a fixed width, and masks of stations. Assumes nothing.
-use Prim.Native.Nat.{ℕ, zero, suc, _+_, _-_, _*_, _^_, _≤_}
+use Prim.Native.Nat.{ℕ, zero, suc, _+_, _-_, _*_, _/_, _^_, _≤_}
 use mathlib.Core.Path.{_≡_}
 use mathlib.Core.Logic.{_↔_}
 use mathlib.Core.Bool.{Bool, true, _&&_, Bool·beq, cond}
 use lib.Dec.{ltb}
-use Rattle.bits.specs.Digits.{value, bit}
+use Rattle.bits.specs.Digits.{value, lowest, bit}
 
 -- n with bit k made b: bit k is taken out, and b put in its place; every other bit stays
 unfoldable pub withBit : ℕ → Bool → ℕ → ℕ
@@ -39,10 +39,13 @@ insert s mask = wordWithBit maskBits s true mask
 -- ---- what reading, writing and comparing mean (paper 000, section 3)
 
 pub record BitLaws : Type 0 where
+  -- bits are numbered from the lowest: bit 0 is the lowest digit, and the bits above it are those of the half
+  pub lowest-bit : (n : ℕ) → bit 0 n ≡ lowest n
+  pub higher-bits : (k n : ℕ) → bit (suc k) n ≡ bit k (n / 2)
   -- "when writing a bit b to j[k], .. the k-th bit j[k] becomes b and all other bits remain unchanged"
   pub written : (k : ℕ) (b : Bool) (n : ℕ) → bit k (withBit k b n) ≡ b
   pub unchanged : (k i : ℕ) (b : Bool) (n : ℕ) → (i ≡ k → ⊥) → bit i (withBit k b n) ≡ bit i n
   -- a number is its bits
-  pub spelled : (a b : ℕ) → ((k : ℕ) → bit k a ≡ bit k b) → a ≡ b
+  pub determined : (a b : ℕ) → ((k : ℕ) → bit k a ≡ bit k b) → a ≡ b
   -- j[k..0] = l[k..0]: each bit up to k is the same
   pub compared : (k a b : ℕ) → (lowAgree k a b ≡ true) ↔ ((i : ℕ) → i ≤ k → bit i a ≡ bit i b)

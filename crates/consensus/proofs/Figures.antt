@@ -11,7 +11,7 @@ use Rattle.consensus.specs.State.{Stage, State, idle, finish-voting, hel
 use Rattle.consensus.specs.Rules.{number, effect, next, after}
 use Rattle.consensus.specs.Terms.{Claims-fit}
 use Rattle.consensus.specs.Figure.{event}
-use Rattle.consensus.specs.Runs.{Label, broadcast, delivery, advance, crash, decide, label-of, stay, takes, run}
+use Rattle.consensus.specs.Runs.{Label, broadcast, delivery, advance, crash, decide, label-of, stay, happening, run}
 use Rattle.consensus.specs.Demand2.{figure-by, figure-of, place-by, Figure-state, Shows, Step, figure-after, Demand2-of, Demand2}
 use Rattle.consensus.proofs.Invariant.{Stage-ok}
 use Rattle.consensus.proofs.Reached.{reached}
@@ -30,11 +30,11 @@ next-refused o st e z = ap (λ (b : Bool). cond b (effect o st e) st) (ne-eqb _ 
 
 module _ (o : Opening) (st : State) (x : Figure-state o) (e : Event) where
   -- where both go on the states after show each other, and else both stay
-  next-shown : Shows o st x → Judged o st x e → Shows o (next o st e) (stay x (takes (o .count) (event (figure-of o)) x e))
-  next-shown h (both z y t w) = subst (λ (s : State). Shows o s (stay x (takes (o .count) (event (figure-of o)) x e))) (sym (next-accepted o st e z)) (
+  next-shown : Shows o st x → Judged o st x e → Shows o (next o st e) (stay x (happening (o .count) (event (figure-of o)) x e))
+  next-shown h (both z y t w) = subst (λ (s : State). Shows o s (stay x (happening (o .count) (event (figure-of o)) x e))) (sym (next-accepted o st e z)) (
       subst (λ (m : Option (Figure-state o)). Shows o (effect o st e) (stay x m)) (sym t) w
       )
-  next-shown h (neither z t) = subst (λ (s : State). Shows o s (stay x (takes (o .count) (event (figure-of o)) x e))) (sym (next-refused o st e z)) (
+  next-shown h (neither z t) = subst (λ (s : State). Shows o s (stay x (happening (o .count) (event (figure-of o)) x e))) (sym (next-refused o st e z)) (
       subst (λ (m : Option (Figure-state o)). Shows o st (stay x m)) (sym t) h
       )
 

@@ -15,7 +15,7 @@ use Rattle.consensus.specs.State.{update}
 use Rattle.consensus.specs.Rules.{any-below, is-bit}
 use Rattle.consensus.specs.Figure.{View, Does, blocked, goes, broadcasts, proposes, known, Figure, onward, event}
 use Rattle.consensus.specs.System.{Process, System, view, moved, sending, proposing, storing, crashing}
-use Rattle.consensus.specs.Runs.{Label, decide, provided, broadcast-by, advance-by, deliver-by, with-process, stay, then, live, done, happens, takes}
+use Rattle.consensus.specs.Runs.{Label, decide, provided, broadcast-by, advance-by, deliver-by, with-process, stay, then, live, done, happens, happening}
 use Rattle.consensus.specs.Lines.{Inside, outset, onto, put-back}
 use Rattle.consensus.proofs.Basics.{by-bool, cond-ind, and-true, update-ind, pair-ind}
 use Rattle.consensus.proofs.Lawful.{More, seen, Falls, Keeps, Silent, Moving, Lawful}
@@ -236,10 +236,10 @@ module _ (F : Figure) (Ready : (ℕ → Option ℕ) → F .Place → Type 0) (la
   owned false i a b t = same
 
   abbrev lines : Event → System (F .Place)
-  lines e = stay x (takes n (F .line) x e)
+  lines e = stay x (happening n (F .line) x e)
 
   abbrev events : Event → System (F .Place)
-  events e = stay y (takes n (event F) y e)
+  events e = stay y (happening n (event F) y e)
 
   claim-becomes : (i v : ℕ) (d e : Does (F .Place)) → Says-alike F Ready law d e
       → Becomes i (broadcast-by v (x .process i) e) (broadcast-by v (y .process i) d)

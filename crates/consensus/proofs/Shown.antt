@@ -14,7 +14,7 @@ use Rattle.consensus.specs.State.{Stage, idle, waiting, Station, State, 
 use Rattle.consensus.specs.Rules.{any-below, is-bit, refuse, stage-number, number, claiming, holding, losing, step-from, effect, casting, was-cast, as-bit}
 use Rattle.consensus.specs.Figure.{View, Does, blocked, goes, broadcasts, proposes, known, event}
 use Rattle.consensus.specs.System.{Process, System, moved, sending, proposing, storing, crashing}
-use Rattle.consensus.specs.Runs.{provided, broadcast-by, advance-by, deliver-by, with-process, then, Label, decide, done, happens, takes}
+use Rattle.consensus.specs.Runs.{provided, broadcast-by, advance-by, deliver-by, with-process, then, Label, decide, done, happens, happening}
 use Rattle.consensus.specs.Demand2.{figure-by, figure-of, place-by, Shows, Figure-state}
 use Rattle.consensus.proofs.Basics.{no-clash, update-ind, pair-ind, any-found, is-bit-some}
 use Rattle.consensus.proofs.Invariant.{Stage-ok, Inv}
@@ -43,7 +43,7 @@ module _ (o : Opening) where
 
   -- the event e is accepted and allowed, and the states after it show each other; or it is neither
   abbrev pub Judged : State → Figure-state o → Event → Type 0
-  Judged st x e = Verdict (number o st e) (takes (o .count) (event (figure-of o)) x e) (λ y. Shows o (effect o st e) y)
+  Judged st x e = Verdict (number o st e) (happening (o .count) (event (figure-of o)) x e) (λ y. Shows o (effect o st e) y)
 
   module _ (st : State) (x : Figure-state o) (shows : Shows o st x) where
     part-shows : (s : ℕ) → Part-shows st (st .station s) (x .process s)

@@ -12,7 +12,7 @@ use Rattle.consensus.specs.Terms.{Fitting, Claims-fit}
 use Rattle.consensus.specs.Figure.{known, event}
 use Rattle.consensus.specs.Figure2 as two
 use Rattle.consensus.specs.System.{System, view}
-use Rattle.consensus.specs.Runs.{stay, takes, run}
+use Rattle.consensus.specs.Runs.{stay, happening, run}
 use Rattle.consensus.specs.Demand2.{figure-by, figure-of, place-2, place-by, Figure-state, Shows, figure-after}
 use Rattle.consensus.specs.Lines.{Thinned, empty, kept, left-out, Inside, outset, put-back, lines-after, Within, Whole-events, Single-lines}
 use Rattle.consensus.proofs.Invariant.{Stage-ok, Inv}
@@ -95,7 +95,7 @@ module _ (o : Opening) (ok : Openable o) where
         list = t .list ▷ e;
         thinned = kept e (t .thinned);
         stands =
-            subst (λ (z : Figure-state o). Stands (figure-of o) (o .count) (lines-after o (h ▷ e)) (stay z (takes (o .count) (event (figure-of o)) z e)))
+            subst (λ (z : Figure-state o). Stands (figure-of o) (o .count) (lines-after o (h ▷ e)) (stay z (happening (o .count) (event (figure-of o)) z e)))
             (sym (t .stands .back)) s;
       }
       go (inr s) = record {
@@ -147,10 +147,10 @@ module _ (o : Opening) where
   Spread-list h = (g : History) × Thinned h g × (lines-after o g ≡ figure-after o h)
 
   abbrev lines-next : Figure-state o → Event → Figure-state o
-  lines-next x e = stay x (takes (o .count) (figure-of o .line) x e)
+  lines-next x e = stay x (happening (o .count) (figure-of o .line) x e)
 
   abbrev events-next : Figure-state o → Event → Figure-state o
-  events-next x e = stay x (takes (o .count) (event (figure-of o)) x e)
+  events-next x e = stay x (happening (o .count) (event (figure-of o)) x e)
 
   spread-same : (h : History) (e : Event) → ((x : Figure-state o) → lines-next x e ≡ events-next x e) → Spread-list h → Spread-list (h ▷ e)
   unfolding run

@@ -11,7 +11,7 @@ use Rattle.consensus.specs.Events.{Event, claim, deliver, step, lose, an
 use Rattle.consensus.specs.State.{update}
 use Rattle.consensus.specs.Figure.{View, Does, blocked, goes, broadcasts, proposes, Figure, onward, event}
 use Rattle.consensus.specs.System.{Process, System, view, moved, proposing}
-use Rattle.consensus.specs.Runs.{decide, then, provided, broadcast-by, advance-by, with-process, stay, live, done, happens, takes}
+use Rattle.consensus.specs.Runs.{decide, then, provided, broadcast-by, advance-by, with-process, stay, live, done, happens, happening}
 use Rattle.consensus.proofs.Basics.{by-bool, update-ind, update-same}
 use Rattle.consensus.proofs.Lawful.{seen, Moving, Lawful}
 use Rattle.consensus.proofs.Gather.{Ended, unsaid, Says-alike, says-first, onward-ended, onward-on, fall}
@@ -30,7 +30,7 @@ update-self {A} f i = fun-ext (λ j. update-ind (λ (y : A). y ≡ f j) f i (f i
 module _ (F : Figure) (Ready : (ℕ → Option ℕ) → F .Place → Type 0) (law : Lawful F Ready) (n : ℕ) where
   -- one line of the process i, and m more
   abbrev turn : ℕ → System (F .Place) → System (F .Place)
-  turn i x = stay x (takes n (F .line) x (step i))
+  turn i x = stay x (happening n (F .line) x (step i))
 
   unfoldable pub turns : ℕ → ℕ → System (F .Place) → System (F .Place)
   turns zero i x = turn i x
@@ -119,7 +119,7 @@ module _ (F : Figure) (Ready : (ℕ → Option ℕ) → F .Place → Type 0) (la
     begin (proposes b a q) e l = (0, turn-first (proposes b a q) l e ∙ ends-by 4 (proposes b a q) tt)
 
     -- an event is some number of lines
-    pub spread : (m : ℕ) × (turns m i x ≡ stay x (takes n (event F) x (step i)))
+    pub spread : (m : ℕ) × (turns m i x ≡ stay x (happening n (event F) x (step i)))
     unfolding happens event turns
     spread = by-bool (live n (F .line) x i)
         (λ l. let w = begin (F .line v (me .place)) refl l in
@@ -135,22 +135,22 @@ module _ (F : Figure) (Ready : (ℕ → Option ℕ) → F .Place → Type 0) (la
     said w d e (inl t) = ap (broadcast-by w me) (t .1 ∙ sym (t .2))
     said w d e (inr t) = unsaid F w me d (t .0) ∙ sym (unsaid F w me e (t .1))
 
-    pub claimed-alike : (w : ℕ) → stay x (takes n (F .line) x (claim i w)) ≡ stay x (takes n (event F) x (claim i w))
+    pub claimed-alike : (w : ℕ) → stay x (happening n (F .line) x (claim i w)) ≡ stay x (happening n (event F) x (claim i w))
     unfolding happens
     claimed-alike w =
         ap (λ (q : Option (Process (F .Place))). stay x (provided (live n (F .line) x i) (with-process x i q)))
         (sym (said w (event F v (me .place)) (F .line v (me .place)) (says-first F Ready law v (me .place) (F .line v (me .place)) refl)))
 
   -- every other event does the same in both runs, whatever the processes do at their places
-  pub delivered-alike : (x : System (F .Place)) (t s : ℕ) → stay x (takes n (F .line) x (deliver t s)) ≡ stay x (takes n (event F) x (deliver t s))
+  pub delivered-alike : (x : System (F .Place)) (t s : ℕ) → stay x (happening n (F .line) x (deliver t s)) ≡ stay x (happening n (event F) x (deliver t s))
   unfolding happens
   delivered-alike x t s = refl
 
-  pub lost-alike : (x : System (F .Place)) (s : ℕ) → stay x (takes n (F .line) x (lose s)) ≡ stay x (takes n (event F) x (lose s))
+  pub lost-alike : (x : System (F .Place)) (s : ℕ) → stay x (happening n (F .line) x (lose s)) ≡ stay x (happening n (event F) x (lose s))
   unfolding happens
   lost-alike x s = refl
 
-  pub answered-alike : (x : System (F .Place)) (b a : ℕ) → stay x (takes n (F .line) x (answer b a)) ≡ stay x (takes n (event F) x (answer b a))
+  pub answered-alike : (x : System (F .Place)) (b a : ℕ) → stay x (happening n (F .line) x (answer b a)) ≡ stay x (happening n (event F) x (answer b a))
   unfolding happens
   answered-alike x b a = go (not (ltb 1 a))
     where

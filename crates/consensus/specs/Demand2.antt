@@ -12,7 +12,7 @@ use Rattle.consensus.specs.Figure.{Figure, event}
 use Rattle.consensus.specs.Figure1 as one
 use Rattle.consensus.specs.Figure2 as two
 use Rattle.consensus.specs.System.{System}
-use Rattle.consensus.specs.Runs.{Label, label-of, takes, run}
+use Rattle.consensus.specs.Runs.{Label, label-of, happening, run}
 
 abbrev pub figure-by : Rule → Figure
 figure-by byStation = one.figure1
@@ -63,7 +63,7 @@ module _ (o : Opening) where
 
   -- the figure allows the event e in the state x, and its step leads to y
   abbrev pub Step : Figure-state → Event → Figure-state → Type 0
-  Step x e y = takes (o .count) (event (figure-of o)) x e ≡ some y
+  Step x e y = happening (o .count) (event (figure-of o)) x e ≡ some y
 
   -- the figure's own run over the labels of a list, passing over those that it does not allow
   abbrev pub figure-after : History → Figure-state

@@ -49,5 +49,5 @@ pub record Single-lines : Type 0 where
   pub holds : (o : Opening) → Openable o → (h : History) → Claims-fit h → Whole-events o h
   -- the other way, an event is nothing but lines: a run of whole events is a run of lines on some list with more STEPs
   pub lines : (o : Opening) (h : History) → (g : History) × Thinned h g × (lines-after o g ≡ figure-after o h)
-  -- four lines after the first are enough: an event ends at a stop
+  -- four lines after the first are enough: an event that ends by going on ends at a stop; a broadcast or a proposal ends it too
   pub stops : (r : Rule) (x : View) (p q : figure-by r .Place) → event (figure-by r) x p ≡ goes q → figure-by r .stop q ≡ true

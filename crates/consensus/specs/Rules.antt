@@ -35,7 +35,7 @@ unfoldable pub any-below : ℕ → (ℕ → Bool) → Bool
 any-below ℕ.zero f = false
 any-below (suc n) f = f n || any-below n f
 
--- the station s cast the bit a in the ballot b
+-- what was cast is the bit a
 abbrev pub is-bit : Bool → Option Bool → Bool
 is-bit a none = false
 is-bit a (some x) = Bool·beq x a

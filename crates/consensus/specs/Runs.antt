@@ -90,10 +90,10 @@ module _ {P : Type 0} (n : ℕ) (does : View → P → Does P) where
       (some (record { process = x .process; decision = update (x .decision) b (some a) }))
 
   -- the state after an event's step, where it is allowed
-  abbrev pub takes : System P → Event → Option (System P)
-  takes x e = then (label-of e) (happens x)
+  abbrev pub happening : System P → Event → Option (System P)
+  happening x e = then (label-of e) (happens x)
 
   -- a run over a list's labels from the initial state, passing over those that are not allowed
   unfoldable pub run : P → History → System P
   run p start = initial p
-  run p (h ▷ e) = stay (run p h) (takes (run p h) e)
+  run p (h ▷ e) = stay (run p h) (happening (run p h) e)

@@ -5,7 +5,7 @@ use Rattle.consensus.specs.Events.{Event, History, start, _▷_, Opening, Opena
 use Rattle.consensus.specs.Terms.{Claims-fit}
 use Rattle.settlement.specs.declared.record.Settlement.{Settlement}
 use Rattle.settlement.specs.declared.record.Outcome.{Outcome}
-use Rattle.settlement.specs.Events.{opened, next, played}
+use Rattle.settlement.specs.Events.{opened, effect, played}
 use Rattle.settlement.specs.Look.{looked}
 use Rattle.settlement.specs.Link.{rule-number, record-after}
 use Rattle.settlement.proofs.Demand1.{demand1}
@@ -23,7 +23,7 @@ same-settlement k r x e = ap (λ (y : Outcome). y .settlement) e
 refused : (r r′ : Settlement) (e : Event) (k : ℕ) → Leaves r e k r′ → (k ≡ 0 → ⊥) → r′ ≡ r
 refused r r′ e k l n = same-settlement k r′ (played r e) l ∙ demand1 .unchanged r e (λ z. n (same-number k r′ (played r e) l ∙ z))
 
-accepted : (r r′ : Settlement) (e : Event) (k : ℕ) → Leaves r e k r′ → k ≡ 0 → r′ ≡ next r e
+accepted : (r r′ : Settlement) (e : Event) (k : ℕ) → Leaves r e k r′ → k ≡ 0 → r′ ≡ effect r e
 accepted r r′ e k l z = same-settlement k r′ (played r e) l ∙ demand1 .advanced r e (sym (same-number k r′ (played r e) l) ∙ z)
 
 left : (o : Opening) (h : History) (r : Settlement) → Stands o h r → r ≡ record-after o h

@@ -6,7 +6,7 @@ use Rattle.consensus.specs.Events.{Event, History, start, _▷_, Opening, Opena
 use Rattle.consensus.specs.Rules.{number, after}
 use Rattle.consensus.specs.Terms.{Claims-fit}
 use Rattle.settlement.specs.declared.record.Settlement.{Settlement}
-use Rattle.settlement.specs.Events.{opened, next, played}
+use Rattle.settlement.specs.Events.{opened, effect, played}
 use Rattle.settlement.specs.Look.{looked}
 use Rattle.settlement.specs.Link.{rule-number, record-after}
 use Rattle.settlement.specs.Demands.{Demand3-of-records}
@@ -34,7 +34,7 @@ pub record Demand3-lent (o : Opening) (h : History) (r : Settlement) : Type 0 wh
 pub record Lent-lists : Type 0 where
   -- refusal leaves the settlement equal, on every record; acceptance advances it
   pub refused : (r r′ : Settlement) (e : Event) (k : ℕ) → Leaves r e k r′ → (k ≡ 0 → ⊥) → r′ ≡ r
-  pub accepted : (r r′ : Settlement) (e : Event) (k : ℕ) → Leaves r e k r′ → k ≡ 0 → r′ ≡ next r e
+  pub accepted : (r r′ : Settlement) (e : Event) (k : ℕ) → Leaves r e k r′ → k ≡ 0 → r′ ≡ effect r e
   -- a list leaves what the meanings by value leave, and some settlement stands there after every list
   pub left : (o : Opening) (h : History) (r : Settlement) → Stands o h r → r ≡ record-after o h
   pub stands : (o : Opening) (h : History) → Stands o h (record-after o h)

@@ -50,7 +50,7 @@ read-on-last n [] d = omega arith
 read-on-last n (b ∷ bs) d = read-on-last (n * 10 + (b - digit 0)) bs d
 
 one-digit : (x : ℕ) → x < 10 → Decimal-of x (digit x ∷ [])
-one-digit x h = record { digit-each = each; value = omega arith; no-leading-zero = λ p. omega arith }
+one-digit x h = record { digit-each = each; value = omega arith; no-leading-zero = λ p. omega arith; zero = λ e. ap (λ (d : ℕ). digit d ∷ []) e }
   where
     each : (i : ℕ) → i < 1 → (digit 0 ≤ getD (digit x ∷ []) i 0) × (getD (digit x ∷ []) i 0 ≤ digit 9)
     each zero p = (omega arith, omega arith)
@@ -69,6 +69,7 @@ one-more x h r =
       digit-each = λ i p. each i p (ltb i (length front)) refl;
       value = rw (read-on-last 0 front (x % 10), r .value) (omega arith);
       no-leading-zero = λ p. rw (List·getD-append front (digit (x % 10) ∷ []) 0 0 (has-digit (x / 10))) (r .no-leading-zero (omega arith));
+      zero = λ e. absurd (omega arith);
     }
   where
     front : List ℕ

@@ -21,6 +21,9 @@ either true log = omega arith
 either false log =
     text-not-empty (ran log limit .settlement) (ran log limit .events) (ran log limit .taken) (ran log limit .status)
 
-pub never-empty : Never-empty
+report-not-empty : (log : List ℕ) → 0 < length (report log)
 unfolding report
-never-empty log = either (ltb limit (length log)) log
+report-not-empty log = either (ltb limit (length log)) log
+
+pub never-empty : Never-empty
+never-empty = record { of-log = report-not-empty; of-settlement = text-not-empty }

@@ -26,8 +26,9 @@ abbrev pub read-on : ℕ → List ℕ → ℕ
 read-on n [] = n
 read-on n (b ∷ bs) = read-on (n * 10 + (b - digit 0)) bs
 
--- they are digits, they make x, and the first is not 0 unless x is
+-- they are digits, they make x, and the first is not 0; but 0 is the one digit 0
 pub record Decimal-of (x : ℕ) (bs : List ℕ) : Type 0 where
   pub digit-each : (i : ℕ) → i < length bs → (digit 0 ≤ getD bs i 0) × (getD bs i 0 ≤ digit 9)
   pub value : read-on 0 bs ≡ x
   pub no-leading-zero : 0 < x → digit 0 < getD bs 0 0
+  pub zero : x ≡ 0 → bs ≡ (digit 0 ∷ [])

@@ -4,6 +4,7 @@ use mathlib.Core.Bool.{cond}
 use mathlib.Core.List.{List}
 use lib.Dec.{ltb}
 use lib.ListN.{length}
+use Rattle.settlement.specs.declared.record.Settlement.{Settlement}
 use Rattle.log.specs.declared.run.Replay.{Replay}
 use Rattle.log.specs.Run.{ran}
 use Rattle.report.specs.Text.{text, too-long}
@@ -20,5 +21,6 @@ unfoldable pub report : List ℕ → List ℕ
 report log = cond (ltb limit (length log)) too-long (text-of (ran log limit))
 
 -- so a count of 0 says that the text did not fit
-abbrev pub Never-empty : Type 0
-Never-empty = (log : List ℕ) → 0 < length (report log)
+pub record Never-empty : Type 0 where
+  pub of-log : (log : List ℕ) → 0 < length (report log)
+  pub of-settlement : (r : Settlement) (events taken status : ℕ) → 0 < length (text r events taken status)

@@ -8,7 +8,7 @@ use Rattle.consensus.specs.Rules.{any-below}
 use Rattle.settlement.specs.Fault.{station-fault, fault}
 use Rattle.settlement.specs.Tests.{first-met, must-wait, takes-last-no, number}
 use Rattle.settlement.specs.Step.{started, voted, bit-taken, finish-taken, found, sought, stepped}
-use Rattle.settlement.specs.Events.{outcome, opened, next, played}
+use Rattle.settlement.specs.Events.{outcome, opened, effect, played}
 use Rattle.settlement.specs.Look.{votes, looked}
 use Rattle.settlement.specs.Link.{record-after}
 use Rattle.log.specs.Table.{row-with, row-of}
@@ -21,5 +21,5 @@ use Rattle.report.specs.Report.{report}
 use Rattle.settle.specs.Cases.{all-right, starred}
 
 pub starred-right : all-right starred ≡ true
-unfolding bit binaryDigits digitsIn withBit lowAgree wordWithBit member insert ceilLog2 leastFrom any-below station-fault fault first-met must-wait takes-last-no number started voted bit-taken finish-taken found sought stepped outcome opened next played votes looked record-after row-with row-of length-said claim-said field-said bytes found-in found-by found-field by-outcome by-field by-reading turn onwards by-open by-first ran digits decimal settlement-part run-part first-line stage-word decision-shown presence stage-part standing-part station-line station-lines text report
+unfolding bit binaryDigits digitsIn withBit lowAgree wordWithBit member insert ceilLog2 leastFrom any-below station-fault fault first-met must-wait takes-last-no number started voted bit-taken finish-taken found sought stepped outcome opened effect played votes looked record-after row-with row-of length-said claim-said field-said bytes found-in found-by found-field by-outcome by-field by-reading turn onwards by-open by-first ran digits decimal settlement-part run-part first-line stage-word decision-shown presence stage-part standing-part station-line station-lines text report
 starred-right = refl

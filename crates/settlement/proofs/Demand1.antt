@@ -10,7 +10,7 @@ use Rattle.consensus.proofs.Basics.{no-clash, refused-not}
 use Rattle.settlement.specs.declared.record.Settlement.{Settlement}
 use Rattle.settlement.specs.declared.record.Outcome.{Outcome}
 use Rattle.settlement.specs.Tests.{Test, when, first-met, tests, number}
-use Rattle.settlement.specs.Events.{outcome, next, played}
+use Rattle.settlement.specs.Events.{outcome, effect, played}
 use Rattle.settlement.specs.Demand1.{None-met, Met-first, Demand1}
 use Rattle.settlement.proofs.Refusals.{refused-outcome, accepted-outcome}
 
@@ -54,7 +54,7 @@ unfolding played outcome number
 demand1 =
     record {
       refused = λ r e k h. (met-first (tests r e) k h, first-gives (tests r e) k);
-      unchanged = λ r e h. ap (λ (o : Outcome). o .settlement) (refused-outcome (number r e) (next r e) r h);
+      unchanged = λ r e h. ap (λ (o : Outcome). o .settlement) (refused-outcome (number r e) (effect r e) r h);
       accepted = λ r e. (none-met (tests r e) (numbered r e), none-gives (tests r e));
-      advanced = λ r e h. ap (λ (o : Outcome). o .settlement) (accepted-outcome (number r e) (next r e) r h);
+      advanced = λ r e h. ap (λ (o : Outcome). o .settlement) (accepted-outcome (number r e) (effect r e) r h);
     }

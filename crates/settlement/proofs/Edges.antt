@@ -8,10 +8,10 @@ use Rattle.consensus.specs.Rules.{any-below}
 use Rattle.settlement.specs.Fault.{station-fault, fault}
 use Rattle.settlement.specs.Tests.{first-met, must-wait, takes-last-no, number}
 use Rattle.settlement.specs.Step.{started, stepped}
-use Rattle.settlement.specs.Events.{outcome, next, played}
+use Rattle.settlement.specs.Events.{outcome, effect, played}
 use Rattle.settlement.specs.Look.{votes, looked}
 use Rattle.settlement.specs.Edges.{all-right, edges}
 
 pub edges-right : all-right edges ≡ true
-unfolding bit binaryDigits digitsIn member ceilLog2 leastFrom any-below station-fault fault first-met must-wait takes-last-no number started stepped outcome next played votes looked
+unfolding bit binaryDigits digitsIn member ceilLog2 leastFrom any-below station-fault fault first-met must-wait takes-last-no number started stepped outcome effect played votes looked
 edges-right = refl

@@ -7,7 +7,7 @@ use mathlib.Core.List.{List, [], _∷_}
 use Rattle.consensus.specs.Events.{Event}
 use Rattle.settlement.specs.declared.record.Settlement.{Settlement}
 use Rattle.settlement.specs.Tests.{Test, when, tests}
-use Rattle.settlement.specs.Events.{next, played}
+use Rattle.settlement.specs.Events.{effect, played}
 
 -- no test of the list is met
 abbrev pub None-met : List Test → Type 0
@@ -28,4 +28,4 @@ pub record Demand1 : Type 0 where
   pub unchanged : (r : Settlement) (e : Event) → (played r e .number ≡ 0 → ⊥) → played r e .settlement ≡ r
   -- "Accepted: every other event, whoever calls and with what bytes"
   pub accepted : (r : Settlement) (e : Event) → played r e .number ≡ 0 ↔ None-met (tests r e)
-  pub advanced : (r : Settlement) (e : Event) → played r e .number ≡ 0 → played r e .settlement ≡ next r e
+  pub advanced : (r : Settlement) (e : Event) → played r e .number ≡ 0 → played r e .settlement ≡ effect r e

@@ -19,7 +19,7 @@ use Rattle.settlement.specs.Link.{rule-number, record-after, Shows-play}
 
 module _ (o : Opening) (h : History) where
   -- "each event's number, and LOOK's whole answer for each station after every beginning of the list, are those of this play"
-  pub record Told : Type 0 where
+  pub record Answers-told : Type 0 where
     pub numbers : (e : Event) → played (record-after o h) e .number ≡ number o (after o h) e
     pub look-decided : (s v : ℕ) → s < o .count → Decided o s v h
         → looked (record-after o h) s ≡ record { number = 0; decided = true; claim = v; votes = length (voted-in o s h) }
@@ -49,7 +49,7 @@ module _ (o : Opening) (h : History) where
 
   -- Demand 3: the words are the play's, and the operations' numbers and answers are the play's too.
   pub record Demand3-of-records : Type 0 where
-    pub told : Told
+    pub told : Answers-told
     pub demand : Demand3-of o h
     -- "A P that has claimed, is not lost and is undecided is never refused one"
     pub never-refused : (g : History) → Beginning g h → (p v : ℕ) → Put-in o p v g → (Lost o p g → ⊥) → ((w : ℕ) → Decided o p w g → ⊥)
@@ -71,8 +71,9 @@ pub record Demands : Type 0 where
   -- OPEN accepts these openings, and no others
   pub opens : (o : Opening) → Openable o → opened (o .count) (rule-number (o .rule)) .number ≡ 0
   pub opens-only : (n rule : ℕ) → opened n rule .number ≡ 0 → (o : Opening) × Openable o × (o .count ≡ n) × (rule-number (o .rule) ≡ rule)
-  -- on the blank settlement every event is refused, and not with 42
+  -- on the blank settlement every event and LOOK are refused, and not with 42
   pub blank-refuses : (e : Event) → played blank e ≡ record { number = blank-number e; settlement = blank }
+  pub blank-shows : (s : ℕ) → looked blank s ≡ turned-away 1
   pub sound : (o : Opening) → Openable o → (h : History) → Claims-fit h → Sound o h
   pub demand2 : (o : Opening) → Openable o → (h : History) → Claims-fit h → Demand2-of-records o h
   pub demand3 : (o : Opening) → Openable o → (h : History) → Claims-fit h → Demand3-of-records o h

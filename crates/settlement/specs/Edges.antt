@@ -1,4 +1,4 @@
--- The edges of the record test and of made-up records, both sides of each, as one list (document 01, "Every event and LOOK first test the
+-- The edges of the record test and of made-up records as one list (document 01, "Every event and LOOK first test the
 -- record"): a row is a record, an operation and what it answers. Assumes nothing.
 use Prim.Native.Nat.{ℕ}
 use mathlib.Core.Bool.{Bool, true, false, _&&_}
@@ -6,10 +6,10 @@ use mathlib.Core.List.{List, [], _∷_}
 use lib.Dec.{eqb}
 use Rattle.consensus.specs.Events.{Event, step, lose, answer}
 use Rattle.settlement.specs.declared.record.Stage.{Stage}
-use Rattle.settlement.specs.declared.record.Stage.the-variants.{Waiting, Voting, Seeking, FinishVoting, FinishAwaiting, Decided}
+use Rattle.settlement.specs.declared.record.Stage.the-variants.{Idle, Waiting, Voting, Awaiting, Seeking, FinishVoting, FinishAwaiting, Decided}
 use Rattle.settlement.specs.declared.record.Station.{Station}
 use Rattle.settlement.specs.declared.record.Settlement.{Settlement}
-use Rattle.settlement.specs.Record.{blank-station, with-station, with-ballot}
+use Rattle.settlement.specs.Record.{with-station, with-ballot}
 use Rattle.settlement.specs.Tests.{number}
 use Rattle.settlement.specs.Events.{fresh, played}
 use Rattle.settlement.specs.Look.{looked}
@@ -53,17 +53,27 @@ edges =
     -- a station below n whose cursor is n or more
     ∷ event-gives (made-up 3 1 0 (entry-at Waiting 0 3 0)) (lose 0) 42
     ∷ event-gives (made-up 3 1 0 (entry-at Waiting 0 2 0)) (lose 0) 0
+    ∷ event-gives (made-up 3 1 2 (entry-at Idle 0 3 0)) (lose 0) 42
     ∷ event-gives (made-up 3 1 3 (entry-at Waiting 0 200 0)) (lose 0) 0
     -- a voting, awaiting or seeking station whose round is R or more under rule 1
     ∷ event-gives (made-up 4 1 0 (entry-at Voting 0 0 2)) (lose 0) 42
     ∷ event-gives (made-up 4 1 0 (entry-at Voting 0 0 1)) (lose 0) 0
+    ∷ event-gives (made-up 4 1 0 (entry-at Awaiting 0 0 2)) (lose 0) 42
+    ∷ event-gives (made-up 4 1 0 (entry-at Awaiting 0 0 1)) (lose 0) 0
+    ∷ event-gives (made-up 4 1 0 (entry-at Seeking 0 0 2)) (lose 0) 42
+    ∷ event-gives (made-up 4 1 0 (entry-at Seeking 0 0 1)) (lose 0) 0
     ∷ event-gives (made-up 1 1 0 (entry-at Seeking 0 0 0)) (lose 0) 42
     ∷ event-gives (made-up 4 1 4 (entry-at Voting 0 0 9)) (lose 0) 0
     ∷ event-gives (made-up 4 1 0 (entry-at Decided 0 0 255)) (lose 0) 0
     ∷ event-gives (made-up 4 1 0 (entry-at Waiting 0 0 255)) (lose 0) 0
     -- a station voting or awaiting on a finish ballot under rule 1
     ∷ event-gives (made-up 4 1 0 (entry-at FinishVoting 0 0 0)) (lose 0) 42
+    ∷ event-gives (made-up 4 1 0 (entry-at FinishAwaiting 0 0 0)) (lose 0) 42
+    ∷ event-gives (made-up 4 2 0 (entry-at FinishVoting 0 0 0)) (lose 0) 0
     -- a station past waiting whose round is 32 or more under rule 2
+    ∷ event-gives (made-up 4 2 0 (entry-at Voting 0 0 32)) (lose 0) 42
+    ∷ event-gives (made-up 4 2 0 (entry-at Voting 0 0 31)) (lose 0) 0
+    ∷ event-gives (made-up 4 2 3 (entry-at FinishAwaiting 0 0 32)) (lose 0) 42
     ∷ event-gives (made-up 4 2 0 (entry-at Decided 0 0 32)) (lose 0) 42
     ∷ event-gives (made-up 4 2 0 (entry-at Decided 0 0 31)) (lose 0) 0
     ∷ event-gives (made-up 4 2 0 (entry-at Waiting 0 0 32)) (lose 0) 0
@@ -75,6 +85,8 @@ edges =
     ∷ event-gives (fresh 0 2) (answer 0 0) 9
     ∷ look-gives (fresh 0 2) 0 1
     ∷ look-gives (fresh 33 2) 0 42
+    ∷ look-gives (fresh 32 2) 31 0
+    ∷ look-gives (fresh 32 2) 32 1
     -- what a step does not name stays: the first STEP keeps round 3, and so 2k = 6 votes are shown
     ∷ votes-after (made-up 1 2 0 (entry-at Waiting 1 0 3)) (step 0) 0 6
     ∷ []

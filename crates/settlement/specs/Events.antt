@@ -41,15 +41,15 @@ opened n rule = outcome (first-met (open-tests n rule)) (fresh n rule) blank
 -- ---- the events
 
 -- what an accepted event makes of the record
-unfoldable pub next : Settlement → Event → Settlement
-next r (claim s v) = with-station s (claiming v (entry r s)) r
-next r (deliver t s) = with-station s (holding t (entry r s)) r
-next r (step s) = stepped r s (entry r s) (entry r s .stage)
-next r (lose s) = with-station s (losing (entry r s)) r
-next r (answer b a) = with-ballot b (answering (as-bit a) (ballot r b)) r
+unfoldable pub effect : Settlement → Event → Settlement
+effect r (claim s v) = with-station s (claiming v (entry r s)) r
+effect r (deliver t s) = with-station s (holding t (entry r s)) r
+effect r (step s) = stepped r s (entry r s) (entry r s .stage)
+effect r (lose s) = with-station s (losing (entry r s)) r
+effect r (answer b a) = with-ballot b (answering (as-bit a) (ballot r b)) r
 
 unfoldable pub played : Settlement → Event → Outcome
-played r e = outcome (number r e) (next r e) r
+played r e = outcome (number r e) (effect r e) r
 
 -- the crate's enum as an event of the list
 abbrev pub meant : declared-event.Event → Event

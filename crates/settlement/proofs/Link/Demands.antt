@@ -37,10 +37,10 @@ use Rattle.settlement.specs.declared.record.Standing.{Standing}
 use Rattle.settlement.specs.Record.{stationEntries, ballotEntries, blank-station, blank-ballot, entry, is-decided, no-station, was-cast}
 use Rattle.settlement.specs.Fault.{fault}
 use Rattle.settlement.specs.Tests.{first-met, open-tests, look-tests, number}
-use Rattle.settlement.specs.Events.{outcome, fresh, blank, opened, next, played}
+use Rattle.settlement.specs.Events.{outcome, fresh, blank, opened, effect, played}
 use Rattle.settlement.specs.Look.{votes, standing, turned-away, looked}
 use Rattle.settlement.specs.Link.{rule-number, record-after, stage-of, answer-in, Shows-play}
-use Rattle.settlement.specs.Demands.{Told, Sound, Demand2-of-records, Demand3-of-records, blank-number, Demands}
+use Rattle.settlement.specs.Demands.{Answers-told, Sound, Demand2-of-records, Demand3-of-records, blank-number, Demands}
 use Rattle.settlement.proofs.Link.Linked.{Entry-shows, Linked, linked-shows}
 use Rattle.settlement.proofs.Link.Faultless.{none-below, rule-known, faultless}
 use Rattle.settlement.proofs.Link.Numbers.{bit-ballot-same, number-same}
@@ -93,10 +93,10 @@ module _ (o : Opening) (a : Openable o) where
   unfolding played outcome rules.next
   next-linked r st l inv short e =
       let same = number-same o a r st l inv short e in
-      subst (λ (k : ℕ). Linked o (cond (eqb k 0) (next r e) r) (cond (eqb (rules.number o st e) 0) (rules.effect o st e) st)) (sym same)
+      subst (λ (k : ℕ). Linked o (cond (eqb k 0) (effect r e) r) (cond (eqb (rules.number o st e) 0) (rules.effect o st e) st)) (sym same)
       (by-bool (eqb (rules.number o st e) 0)
-      (λ t. subst (λ (b : Bool). Linked o (cond b (next r e) r) (cond b (rules.effect o st e) st)) (sym t) (effect-linked o a r st l inv short e (eqb-true _ 0 t)))
-      (λ t. subst (λ (b : Bool). Linked o (cond b (next r e) r) (cond b (rules.effect o st e) st)) (sym t) l))
+      (λ t. subst (λ (b : Bool). Linked o (cond b (effect r e) r) (cond b (rules.effect o st e) st)) (sym t) (effect-linked o a r st l inv short e (eqb-true _ 0 t)))
+      (λ t. subst (λ (b : Bool). Linked o (cond b (effect r e) r) (cond b (rules.effect o st e) st)) (sym t) l))
 
   pub linked-after : (h : History) → Claims-fit h → Linked o (record-after o h) (rules.after o h)
   unfolding record-after rules.after
@@ -232,7 +232,7 @@ module _ (o : Opening) (a : Openable o) (h : History) (f : Claims-fit h) where
             shown-decided o s (entry r s .decision) h (sym (entry-decision s b) ∙ ap (λ (y : Bool). cond y (some (entry r s .decision)) none) x),
           )
 
-  told : Told o h
+  told : Answers-told o h
   told = record {
     numbers = numbers;
     look-decided = look-decided;
@@ -306,7 +306,7 @@ blank-number-is (step s) = met (no-station blank s) 1 _ (nobody s)
 blank-number-is (lose s) = met (no-station blank s) 1 _ (nobody s)
 blank-number-is (answer b v) = met (not (ltb b 0)) 9 _ (ap not (le-ltb b 0 zero-le))
 
-blank-refused : (e : Event) → cond (eqb (blank-number e) 0) (next blank e) blank ≡ blank
+blank-refused : (e : Event) → cond (eqb (blank-number e) 0) (effect blank e) blank ≡ blank
 blank-refused (claim s v) = refl
 blank-refused (deliver t s) = refl
 blank-refused (step s) = refl
@@ -315,7 +315,12 @@ blank-refused (answer b v) = refl
 
 blank-refuses : (e : Event) → played blank e ≡ record { number = blank-number e; settlement = blank }
 unfolding played outcome
-blank-refuses e = ap (λ (k : ℕ). outcome k (next blank e) blank) (blank-number-is e) ∙ ap (λ (x : Settlement). record { number = blank-number e; settlement = x }) (blank-refused e)
+blank-refuses e = ap (λ (k : ℕ). outcome k (effect blank e) blank) (blank-number-is e) ∙ ap (λ (x : Settlement). record { number = blank-number e; settlement = x }) (blank-refused e)
+
+blank-shows : (s : ℕ) → looked blank s ≡ turned-away 1
+unfolding looked first-met fault any-below
+blank-shows s =
+    ap (λ (k : ℕ). cond (eqb k 0) (standing blank (entry blank s)) (turned-away k)) (met (no-station blank s) 1 _ (nobody s))
 
 -- ---- all together
 
@@ -324,6 +329,7 @@ demands = record {
   opens = λ o a. ap (λ x. x .number) (opened-fresh o a);
   opens-only = opens-only;
   blank-refuses = blank-refuses;
+  blank-shows = blank-shows;
   sound = sound;
   demand2 = demand2;
   demand3 = λ o a h f. record {

@@ -32,7 +32,7 @@ use Rattle.settlement.specs.declared.record.Ballot.{Ballot}
 use Rattle.settlement.specs.declared.record.Settlement.{Settlement}
 use Rattle.settlement.specs.Record.{ballotEntries, entry, ballot, with-station, with-ballot, by-station, bit-ballot, not-idle, spelled, claiming, holding, losing, moved, casting, answering}
 use Rattle.settlement.specs.Step.{started, staged, voted, bit-taken, finish-taken, found, sought, stepped}
-use Rattle.settlement.specs.Events.{next}
+use Rattle.settlement.specs.Events.{effect}
 use Rattle.settlement.specs.Link.{rule-number, stage-of, stands-at, answer-in}
 use Rattle.settlement.proofs.Link.Linked.{Early, Entry-shows, Linked, own-linked, vote-linked, answer-linked}
 use Rattle.settlement.proofs.Link.Numbers.{idle-same, ballot-of-round, ballot-answered, answer-same}
@@ -298,8 +298,8 @@ module _ (o : Opening) (a : Openable o) (r : Settlement) (st : play.State) (l : 
       → Linked o (with-ballot b (answering (as-bit v) (ballot r b)) r) (record { station = st .station; answer-of = play.update (st .answer-of) b (some (as-bit v)) })
   answer-effect b v e = answer-linked o a r st l b (inside b (answer-accepted o st b v e .ballot)) (as-bit v)
 
-  pub effect-linked : (e : Event) → rules.number o st e ≡ 0 → Linked o (next r e) (rules.effect o st e)
-  unfolding next rules.effect
+  pub effect-linked : (e : Event) → rules.number o st e ≡ 0 → Linked o (effect r e) (rules.effect o st e)
+  unfolding effect rules.effect
   effect-linked (claim s v) z = claim-effect s v z
   effect-linked (deliver t s) z = deliver-effect t s z
   effect-linked (step s) z = let c = step-accepted o st s z in step-effect s (c .station) (c .stage)

@@ -1,7 +1,7 @@
 -- `settlement::answer::answer`: its parts are those of the definition. Assumes nothing.
 use borrow.Author.Needs.{needs}
 use Rattle.settlement.specs.Tests.{first-met, number}
-use Rattle.settlement.specs.Events.{next, played}
+use Rattle.settlement.specs.Events.{effect, played}
 use Rattle.settlement.proofs.answer.answer.Statement.{statement}
 use Rattle.settlement.proofs.answer.answer.Tie as tie
 
@@ -24,7 +24,7 @@ joined-requires : tie.Need-joined-requires
 joined-requires c κs = search needs
 
 returns : tie.Need-returns
-unfolding played number first-met next
+unfolding played number first-met effect
 returns c =
     rw (
       c .joined .ensures,

@@ -3,7 +3,7 @@ use mathlib.Core.Path.{_≡_, sym, _∙_}
 use borrow.Author.Needs.{needs}
 use Rattle.consensus.specs.Events.{step}
 use Rattle.settlement.specs.Tests.{first-met, number}
-use Rattle.settlement.specs.Events.{next, played}
+use Rattle.settlement.specs.Events.{effect, played}
 use Rattle.settlement.proofs.Refusals.{refused-outcome}
 use Rattle.settlement.proofs.Range.{ready}
 use Rattle.settlement.proofs.step.step.Statement.{statement}
@@ -23,7 +23,7 @@ returns : tie.Need-returns
 unfolding played
 returns c =
     let a = c .before .before .before .args in
-    rw (← counted (c .before)) (sym (refused-outcome _ (next (a .r) (step (a .s))) (a .r) (c .if1 .taken)))
+    rw (← counted (c .before)) (sym (refused-outcome _ (effect (a .r) (step (a .s))) (a .r) (c .if1 .taken)))
 
 station-at-requires : tie.Need-station-at-requires
 station-at-requires c κs = search needs
@@ -37,7 +37,7 @@ joined-requires : tie.Need-joined-requires
 joined-requires c κs = search needs
 
 returns-2 : tie.Need-returns-2
-unfolding played number first-met next
+unfolding played number first-met effect
 returns-2 c =
     rw (
       c .joined .ensures,
