@@ -1,17 +1,17 @@
 -- "An event was accepted" is what the play's state shows: held, put in, lost, answered. Each is made by one kind of event and stays,
 -- so one law serves all four. Assumes nothing.
-use Prim.Native.Nat.{ℕ, zero, suc, _+_, _%_, _<_, _≤_}
+use Prim.Native.Nat.{ℕ, suc, _+_, _%_}
 use mathlib.Core.Path.{_≡_, refl, sym, subst, _∙_, ap}
 use mathlib.Core.Logic.{_⊎_, inl, inr, _↔_}
-use mathlib.Core.Bool.{Bool, true, false, cond, _&&_}
-use mathlib.Core.Option.{Option, none, some, Option·none-ne-some}
+use mathlib.Core.Bool.{Bool, true, false, _&&_}
+use mathlib.Core.Option.{Option}
 use lib.Dec.{eqb}
 use Rattle.bits.specs.Words.{lowAgree}
 use Rattle.consensus.specs.Events.{Event, claim, deliver, step, lose, answer, History, start, _▷_, Rule, byStation, byClaim, Opening, rounds}
-use Rattle.consensus.specs.State.{Stage, idle, waiting, voting, awaiting, seeking, finish-voting, finish-awaiting, decided, Station, State, fresh, not-idle, claimed, claim-of, held, answered, bit-of, update, set-station}
-use Rattle.consensus.specs.Rules.{number, finish-ballot, spelled, first-stage, found, sought, finished, claiming, holding, losing, step-from, effect, next, after, as-bit}
+use Rattle.consensus.specs.State.{Stage, idle, waiting, voting, awaiting, seeking, finish-voting, finish-awaiting, decided, Station, State, fresh, not-idle, claimed, claim-of, held, answered, bit-of}
+use Rattle.consensus.specs.Rules.{number, finish-ballot, spelled, first-stage, found, sought, finished, claiming, holding, losing, step-from, effect, next, after}
 use Rattle.consensus.specs.Terms.{Happened, Put-in, Holds, Lost, Answered}
-use Rattle.consensus.proofs.Basics.{by-bool, cond-ind, no-clash, update-ind, update-same}
+use Rattle.consensus.proofs.Basics.{cond-ind, no-clash, update-ind, update-same}
 use Rattle.consensus.proofs.Reached.{next-ind, claim-accepted}
 use Rattle.consensus.proofs.Station.{next-accepted}
 

@@ -1,7 +1,7 @@
 -- What a STEP does, said in the figures' terms: it waits, goes on, or proposes a bit. So a figure's event and a STEP can be
 -- compared stage by stage, and what follows from the comparison is said once for both figures. Assumes nothing.
 use Prim.Native.Nat.{ℕ, suc, _+_, _%_}
-use mathlib.Core.Path.{_≡_, refl, sym, subst, ap}
+use mathlib.Core.Path.{_≡_, refl, ap}
 use mathlib.Core.Logic.{_⊎_, inl, inr}
 use mathlib.Core.Bool.{Bool, true, false, cond, not}
 use mathlib.Core.Option.{Option, none, some}

@@ -18,11 +18,11 @@ use Rattle.bits.proofs.Words.{agree-bits}
 use Rattle.bits.proofs.Log.{log-enough, log-least}
 use Rattle.consensus.specs.Events.{Opening, byStation}
 use Rattle.consensus.specs.State.{Stage, idle, waiting, voting, awaiting, seeking, finish-voting, finish-awaiting, decided, State, claim-of, held}
-use Rattle.consensus.specs.Rules.{first-stage, found, sought}
-use Rattle.consensus.specs.Figure.{View, Does, blocked, goes, broadcasts, proposes, await, known, onward, event}
-use Rattle.consensus.specs.Figure1.{Place, line4, line5, line6, line7, line8, in8, line9, line10, line11, line12, returned, line, figure1}
+use Rattle.consensus.specs.Rules.{first-stage, found}
+use Rattle.consensus.specs.Figure.{View, Does, blocked, goes, await, known, onward, event}
+use Rattle.consensus.specs.Figure1.{Place, line4, line5, line6, line8, in8, line9, line11, line12, returned, line, figure1}
 use Rattle.consensus.specs.Demand2.{place-1}
-use Rattle.consensus.proofs.Invariant.{Seeking, Stage-ok}
+use Rattle.consensus.proofs.Invariant.{Stage-ok}
 use Rattle.consensus.proofs.Alike.{Alike, both-blocked, both-go, both-broadcast, both-propose, play-view, does-at}
 
 -- two numbers below 2 ^ r that agree in their low r bits are equal

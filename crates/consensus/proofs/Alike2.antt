@@ -1,6 +1,6 @@
 -- A STEP by claim does what an event of figure 2 does, stage by stage: the cursor's claim is held where line 8 or 11 reads prop[j],
 -- so the number there is the claim of j, and line 10's test is the play's. Assumes nothing.
-use Prim.Native.Nat.{ℕ, suc, _+_, _*_, _%_, _<_, _≤_}
+use Prim.Native.Nat.{ℕ, _+_, _*_, _%_}
 use mathlib.Core.Path.{_≡_, refl, sym, subst}
 use mathlib.Core.Bool.{Bool, true, false, cond, _&&_, true≢false}
 use mathlib.Core.Option.{Option, none, some, Option·some-injective}
@@ -10,10 +10,10 @@ use Rattle.bits.specs.Words.{withBit, lowAgree}
 use Rattle.consensus.specs.Events.{Opening, byClaim}
 use Rattle.consensus.specs.State.{Stage, idle, waiting, voting, awaiting, seeking, finish-voting, finish-awaiting, decided, State, claim-of, held}
 use Rattle.consensus.specs.Rules.{finished}
-use Rattle.consensus.specs.Figure.{View, Does, blocked, goes, broadcasts, proposes, await, onward, event}
-use Rattle.consensus.specs.Figure2.{Place, line4, line5, line6, line7, line8, in8, line9, line10, line11, line12, in12, line13, returned, fits, equals, line, figure2}
+use Rattle.consensus.specs.Figure.{View, Does, blocked, goes, proposes, await, onward, event}
+use Rattle.consensus.specs.Figure2.{Place, line4, line5, line6, line8, in8, line9, line11, line12, in12, line13, returned, fits, equals, line, figure2}
 use Rattle.consensus.specs.Demand2.{place-2}
-use Rattle.consensus.proofs.Invariant.{Spelling, Stage-ok}
+use Rattle.consensus.proofs.Invariant.{Stage-ok}
 use Rattle.consensus.proofs.Alike.{Alike, both-blocked, both-go, both-broadcast, both-propose, play-view, does-at}
 
 module _ (n : ℕ) (st : State) (s : ℕ) where

@@ -1,26 +1,24 @@
 -- The bound on supplied steps. A round costs one vote, one answer taken and at most n seeks, by claim one finish vote and one finish answer
 -- more. Seeks: at the first supplied one the station holds a claim that fits the answers; from then on every seek brings the cursor one
 -- nearer to it, and there seeking ends. Assumes nothing.
-use Prim.Native.Nat.{ℕ, zero, suc, _+_, _*_, _-_, _%_, _<_, _≤_, suc-le-suc}
-use mathlib.Core.Path.{_≡_, refl, sym, subst, _∙_, ap}
+use Prim.Native.Nat.{ℕ, suc, _+_, _*_, _-_, _%_, _<_, _≤_, suc-le-suc}
+use mathlib.Core.Path.{_≡_, sym, subst, _∙_, ap}
 use mathlib.Core.Logic.{_⊎_, inl, inr, ⊎-elim}
 use mathlib.Core.Bool.{Bool, true, false, cond, _&&_}
-use mathlib.Core.Option.{Option, none, some, Option·some-injective}
+use mathlib.Core.Option.{Option·some-injective}
 use native.Mathlib.Omega.{arith}
-use native.Mathlib.Nat.{le-trans, mod-lt, mod-eq-of-lt, mod-self, mul-le-mul-right}
+use native.Mathlib.Nat.{le-trans, mod-lt, mod-eq-of-lt, mod-self}
 use lib.Dec.{eqb, leb}
 use borrow.Author.Tests.{eqb-true, eqb-false, leb-true, leb-false}
 use Rattle.bits.specs.Words.{lowAgree}
 use Rattle.bits.specs.Log.{ceilLog2}
 use Rattle.bits.proofs.Words.{bits-agree}
-use Rattle.consensus.specs.Events.{Event, step, History, start, _▷_, Rule, byStation, byClaim, Opening, rounds}
-use Rattle.consensus.specs.State.{Stage, idle, waiting, voting, awaiting, seeking, finish-voting, finish-awaiting, decided, Station, State, claim-of, held, bit-of}
-use Rattle.consensus.specs.Rules.{finish-ballot, spelled, first-stage, found, sought, finished, step-from, stage-number, next, after}
-use Rattle.consensus.specs.Terms.{takes, Supplied, Supplied-steps, longest}
-use Rattle.consensus.specs.Demand3.{most-steps}
+use Rattle.consensus.specs.Events.{Rule, byStation, byClaim, Opening, rounds}
+use Rattle.consensus.specs.State.{Stage, idle, waiting, voting, awaiting, seeking, finish-voting, finish-awaiting, decided, State, claim-of, held}
+use Rattle.consensus.specs.Rules.{spelled, first-stage, found, sought, finished, next}
 use Rattle.consensus.proofs.Basics.{by-bool, cond-ind, no-clash}
-use Rattle.consensus.proofs.Invariant.{Fits, Word, Seeking, Stage-ok, Part-ok}
-use Rattle.consensus.proofs.Steps.{opening, idle-refused, decided-refused}
+use Rattle.consensus.proofs.Invariant.{Fits, Word, Seeking}
+use Rattle.consensus.proofs.Steps.{opening}
 
 -- ---- the way around the stations
 

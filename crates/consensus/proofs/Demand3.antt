@@ -1,7 +1,7 @@
 -- Demand 3 about the play: its clauses put together, and that the supplied steps a station has taken are counted. Assumes nothing.
-use Prim.Native.Nat.{ℕ, zero, suc, _<_}
-use mathlib.Core.Path.{_≡_, refl, sym, subst, _∙_, ap}
-use mathlib.Core.Logic.{_⊎_, inl, inr}
+use Prim.Native.Nat.{ℕ, suc}
+use mathlib.Core.Path.{_≡_, refl, sym, subst}
+use mathlib.Core.Logic.{inl, inr}
 use mathlib.Core.Bool.{Bool, true, false, not, _&&_}
 use mathlib.Core.Option.{Option, none, some, Option·none-ne-some, Option·some-injective}
 use Rattle.bits.specs.Digits.{bit, binaryDigits, digitsIn}
@@ -10,9 +10,9 @@ use Rattle.bits.specs.Log.{ceilLog2, leastFrom}
 use Rattle.consensus.specs.Events.{Event, History, start, _▷_, Rule, byStation, byClaim, Opening}
 use Rattle.consensus.specs.State.{State, held, answered, update}
 use Rattle.consensus.specs.Rules.{any-below, stage-number, number, step-from, effect, next, after}
-use Rattle.consensus.specs.Terms.{Claims-fit, takes, waits-on, Supplied, Takes-supplied, Supplied-steps}
+use Rattle.consensus.specs.Terms.{takes, waits-on, Supplied, Takes-supplied, Supplied-steps}
 use Rattle.consensus.specs.Told.{Told}
-use Rattle.consensus.specs.Demand3.{Demand3, Demand3-of, No-42}
+use Rattle.consensus.specs.Demand3.{Demand3, No-42}
 use Rattle.consensus.specs.Examples.{opening, lone-by-station, lone-by-claim, beside-a-lost-claim, lacking-a-held-claim, Bounds-met}
 use Rattle.consensus.proofs.Basics.{by-bool, no-clash, any-found, any-none, and-true, not-false→true}
 use Rattle.consensus.proofs.Reached.{reached}

@@ -3,8 +3,7 @@
 use Prim.Native.Nat.{ℕ}
 use mathlib.Core.Path.{_≡_, refl, sym, subst, ap, _∙_}
 use mathlib.Core.Bool.{Bool, true, false, cond}
-use mathlib.Core.Option.{Option, none, some, Option·some-injective, Option·none-ne-some}
-use lib.Dec.{eqb}
+use mathlib.Core.Option.{Option, some, Option·some-injective, Option·none-ne-some}
 use borrow.Author.Tests.{ne-eqb}
 use Rattle.consensus.specs.Events.{Event, claim, deliver, step, lose, answer, History, start, _▷_, Rule, byStation, byClaim, Opening, Openable}
 use Rattle.consensus.specs.State.{Stage, State, idle, finish-voting, held}
@@ -16,7 +15,7 @@ use Rattle.consensus.specs.Demand2.{figure-by, figure-of, place-by, Figu
 use Rattle.consensus.proofs.Invariant.{Stage-ok}
 use Rattle.consensus.proofs.Reached.{reached}
 use Rattle.consensus.proofs.Station.{next-accepted}
-use Rattle.consensus.proofs.Alike.{Verdict, both, neither}
+use Rattle.consensus.proofs.Alike.{both, neither}
 use Rattle.consensus.proofs.Ballots.{in-bounds}
 use Rattle.consensus.proofs.Shown.{Judged, verdict}
 

@@ -7,7 +7,6 @@ use mathlib.Core.Logic.{_⊎_, inl, inr}
 use mathlib.Core.Bool.{Bool, true, false, cond, not, _&&_, true≢false}
 use mathlib.Core.Option.{Option, none, some, Option·none-ne-some}
 use native.Mathlib.Omega.{arith}
-use native.Mathlib.Nat.{le-refl}
 use lib.Dec.{eqb, ltb}
 use borrow.Author.Tests.{not-true}
 use Rattle.consensus.specs.Events.{Event, claim, deliver, step, lose, answer}
@@ -15,7 +14,7 @@ use Rattle.consensus.specs.State.{update}
 use Rattle.consensus.specs.Rules.{any-below, is-bit}
 use Rattle.consensus.specs.Figure.{View, Does, blocked, goes, broadcasts, proposes, known, Figure, onward, event}
 use Rattle.consensus.specs.System.{Process, System, view, moved, sending, proposing, storing, crashing}
-use Rattle.consensus.specs.Runs.{Label, decide, provided, broadcast-by, advance-by, deliver-by, with-process, stay, then, live, done, happens, happening}
+use Rattle.consensus.specs.Runs.{Label, decide, provided, broadcast-by, advance-by, deliver-by, with-process, stay, then, live, happens, happening}
 use Rattle.consensus.specs.Lines.{Inside, outset, onto, put-back}
 use Rattle.consensus.proofs.Basics.{by-bool, cond-ind, and-true, update-ind, pair-ind}
 use Rattle.consensus.proofs.Lawful.{More, seen, Falls, Keeps, Silent, Moving, Lawful}

@@ -1,15 +1,15 @@
 -- What all can see only grows: claims put in, claims held, bits cast, answers. Each part of the invariant speaks of what is there
 -- and so outlives any event. Assumes nothing.
-use Prim.Native.Nat.{ℕ, suc, _<_, _≤_}
-use mathlib.Core.Path.{_≡_, refl, sym, subst, _∙_, ap}
-use mathlib.Core.Logic.{_⊎_, inl, inr}
-use mathlib.Core.Bool.{Bool, true, false}
-use mathlib.Core.Option.{Option, none, some}
+use Prim.Native.Nat.{ℕ, suc}
+use mathlib.Core.Path.{_≡_, refl, sym, _∙_, ap}
+use mathlib.Core.Logic.{inl, inr}
+use mathlib.Core.Bool.{Bool, true}
+use mathlib.Core.Option.{Option, some}
 use Rattle.bits.specs.Digits.{bit}
-use Rattle.consensus.specs.Events.{Rule, byStation, byClaim, Opening, rounds}
+use Rattle.consensus.specs.Events.{Rule, byStation, byClaim, Opening}
 use Rattle.consensus.specs.State.{Stage, idle, waiting, voting, awaiting, seeking, finish-voting, finish-awaiting, decided, State, claimed, claim-of, held}
-use Rattle.consensus.specs.Rules.{bit-ballot, finish-ballot, spelled, spelled-by}
-use Rattle.consensus.proofs.Invariant.{Fits, Word, Candidate, Unfinished, Round, Round-by, Bit-cast, Finish-cast, Cast-ok, Spelling, Seeking, Decided-by, Stage-ok, Part-ok}
+use Rattle.consensus.specs.Rules.{spelled, spelled-by}
+use Rattle.consensus.proofs.Invariant.{Fits, Word, Candidate, Unfinished, Round, Round-by, Bit-cast, Finish-cast, Cast-ok, Spelling, Decided-by, Stage-ok, Part-ok}
 
 pub record Grows (st st' : State) : Type 0 where
   pub claims : (s : ℕ) → claimed st s ≡ true → (claimed st' s ≡ true) × (claim-of st' s ≡ claim-of st s)

@@ -1,11 +1,9 @@
 -- What the two figures have in common that lets single lines be gathered into events: between two stops there are at most four lines, which
 -- neither wait nor broadcast; and a line that leads to no stop still leads there when more was delivered and decided. Assumes nothing.
-use Prim.Native.Nat.{ℕ, suc, _≤_, zero-le}
+use Prim.Native.Nat.{ℕ, suc, _≤_}
 use mathlib.Core.Path.{_≡_, refl, sym, subst, ap, _∙_}
 use mathlib.Core.Bool.{Bool, true, false, cond, _&&_, true≢false}
 use mathlib.Core.Option.{Option, none, some}
-use native.Mathlib.Nat.{le-refl}
-use native.Mathlib.Omega.{arith}
 use lib.Dec.{ltb, lit≤}
 use Rattle.bits.specs.Words.{lowAgree}
 use Rattle.bits.specs.Log.{ceilLog2}

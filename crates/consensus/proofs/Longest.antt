@@ -1,23 +1,23 @@
 -- Claims put in are no longer than K and fit their width, and a finish answer 0 tells of a claim with a higher bit. So by claim a round that
 -- a station may be in is below K. Assumes nothing.
-use Prim.Native.Nat.{ℕ, zero, suc, _+_, _*_, _^_, _<_, _≤_, zero-le, max}
+use Prim.Native.Nat.{ℕ, zero, suc, _^_, _<_, _≤_, zero-le, max}
 use mathlib.Core.Path.{_≡_, refl, sym, subst, _∙_, ap}
 use mathlib.Core.Logic.{_⊎_, inl, inr, ⊎-elim}
 use mathlib.Core.Bool.{Bool, true, false, cond}
-use mathlib.Core.Option.{Option, none, some}
+use mathlib.Core.Option.{some}
 use native.Mathlib.Omega.{arith}
 use native.Mathlib.Nat.{le-trans, le-of-lt, le-max-left, le-max-right, max-eq-left, max-eq-right, le-of-eq}
-use lib.Dec.{eqb, leb}
+use lib.Dec.{leb}
 use borrow.Author.Tests.{eqb-true, eq-eqb, leb-true, leb-false}
-use Rattle.bits.specs.Digits.{bit, bitLength}
+use Rattle.bits.specs.Digits.{bitLength}
 use Rattle.bits.specs.Words.{claimBits}
 use Rattle.bits.proofs.Digits.{length-pos, length-least, bit-below-length}
-use Rattle.consensus.specs.Events.{Event, claim, deliver, step, lose, answer, History, start, _▷_, Rule, byStation, byClaim, Opening}
-use Rattle.consensus.specs.State.{State, claimed, claim-of}
-use Rattle.consensus.specs.Rules.{finish-ballot, number, after}
+use Rattle.consensus.specs.Events.{Event, claim, deliver, step, lose, answer, History, start, _▷_, byClaim, Opening}
+use Rattle.consensus.specs.State.{claimed, claim-of}
+use Rattle.consensus.specs.Rules.{finish-ballot, after}
 use Rattle.consensus.specs.Terms.{Beginning, Fitting, Claims-fit, put-length, accepts, Happened, longest}
 use Rattle.consensus.proofs.Basics.{by-bool}
-use Rattle.consensus.proofs.Invariant.{Unfinished, Finish-cast}
+use Rattle.consensus.proofs.Invariant.{Unfinished}
 use Rattle.consensus.proofs.Spelling.{finish-answer}
 use Rattle.consensus.proofs.Reached.{reached}
 use Rattle.consensus.proofs.Accepted.{put-in-shown}

@@ -1,21 +1,20 @@
 -- A supplied STEP is not refused: the station holds its own claim, what it waits on is answered, and answer 0 never comes from the last
 -- ballot, since it tells of a claim with a bit that no claim has. So no event meets 42 either. Assumes nothing.
-use Prim.Native.Nat.{ℕ, zero, suc, _+_, _*_, _<_, _≤_}
-use mathlib.Core.Path.{_≡_, refl, sym, subst, _∙_, ap}
-use mathlib.Core.Logic.{_⊎_, inl, inr}
+use Prim.Native.Nat.{ℕ, suc, _*_}
+use mathlib.Core.Path.{_≡_, refl, sym, _∙_, ap}
 use mathlib.Core.Bool.{Bool, true, false, not, _||_}
 use mathlib.Core.Option.{Option, none, some}
 use native.Mathlib.Omega.{arith}
 use lib.Dec.{eqb, ltb}
-use borrow.Author.Tests.{eqb-true, eqb-false, ne-eqb, lt-ltb}
+use borrow.Author.Tests.{eqb-false, ne-eqb, lt-ltb}
 use Rattle.bits.specs.Words.{claimBits}
 use Rattle.consensus.specs.Events.{Event, claim, deliver, step, lose, answer, History, Rule, byClaim, Opening, rounds, ballots, ballotsOf}
-use Rattle.consensus.specs.State.{Stage, idle, waiting, voting, awaiting, seeking, finish-voting, finish-awaiting, decided, State, not-idle, claimed, held, answered}
+use Rattle.consensus.specs.State.{Stage, idle, waiting, voting, awaiting, seeking, finish-voting, finish-awaiting, decided, not-idle, claimed, held, answered}
 use Rattle.consensus.specs.Rules.{bit-ballot, finish-ballot, no-station, was-cast, as-bit, refuse, last-refusal, stage-number, number, after}
-use Rattle.consensus.specs.Terms.{Claims-fit, Put-in, Lost, Decided, Supplied, waits-on}
+use Rattle.consensus.specs.Terms.{Claims-fit, Put-in, Lost, Decided, Supplied}
 use Rattle.consensus.specs.Told.{awaited}
 use Rattle.consensus.proofs.Basics.{by-bool, no-clash}
-use Rattle.consensus.proofs.Invariant.{Part-ok, Inv}
+use Rattle.consensus.proofs.Invariant.{Part-ok}
 use Rattle.consensus.proofs.Reached.{reached}
 use Rattle.consensus.proofs.Accepted.{holds-shown, lost-shown, put-in-shown, answered-shown}
 use Rattle.consensus.proofs.Told.{stage-after, waits-shown, shown-decided}

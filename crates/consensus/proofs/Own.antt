@@ -1,15 +1,15 @@
 -- An event that is owned by one station changes that station's part only. Where the new part is right and what all can see has
 -- grown, the invariant holds on, since all other parts grow with what they see. Assumes nothing.
-use Prim.Native.Nat.{ℕ, suc, _<_, _≤_}
+use Prim.Native.Nat.{ℕ, _<_, _≤_}
 use mathlib.Core.Path.{_≡_, refl, sym, subst, _∙_, ap}
 use mathlib.Core.Logic.{_⊎_, inl, inr}
-use mathlib.Core.Bool.{Bool, true, false}
+use mathlib.Core.Bool.{Bool, true}
 use mathlib.Core.Option.{Option, none, some}
 use Rattle.consensus.specs.Events.{Opening}
-use Rattle.consensus.specs.State.{Stage, Station, State, not-idle, claimed, claim-of, update, set-station}
+use Rattle.consensus.specs.State.{Stage, Station, State, not-idle, claimed, claim-of, set-station}
 use Rattle.consensus.proofs.Basics.{update-ind}
 use Rattle.consensus.proofs.Invariant.{Cast-ok, Stage-ok, Part-ok, Inv, votes}
-use Rattle.consensus.proofs.Grows.{Grows, part-grows, cast-grows}
+use Rattle.consensus.proofs.Grows.{Grows, part-grows}
 
 -- the state st' that an event leaves of st: the invariant holds on, and what all can see has grown
 pub record Kept (o : Opening) (st st' : State) : Type 0 where

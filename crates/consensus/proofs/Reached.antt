@@ -1,17 +1,15 @@
 -- Every event keeps the invariant, and a fresh state has it: so it holds of every state reached from an opening.
 -- Assumes nothing.
-use Prim.Native.Nat.{ℕ, zero, suc, _<_, _≤_}
+use Prim.Native.Nat.{ℕ, suc, _<_, _≤_}
 use mathlib.Core.Path.{_≡_, refl, sym, subst, _∙_, ap}
-use mathlib.Core.Logic.{_⊎_, inl, inr}
-use mathlib.Core.Bool.{Bool, true, false, not, cond, _||_}
-use mathlib.Core.Option.{Option, none, some, Option·none-ne-some, Option·some-injective}
-use native.Mathlib.Omega.{arith}
+use mathlib.Core.Bool.{Bool, true, false}
+use mathlib.Core.Option.{Option, none, some, Option·none-ne-some}
 use lib.Dec.{eqb, ltb}
 use borrow.Author.Tests.{eqb-true, ltb-true}
 use Rattle.consensus.specs.Events.{Event, claim, deliver, step, lose, answer, History, start, _▷_, Opening, ballots}
-use Rattle.consensus.specs.State.{Stage, idle, waiting, voting, awaiting, seeking, finish-voting, finish-awaiting, decided, Station, State, fresh, not-idle, claimed, claim-of, held, answered, update, set-station}
-use Rattle.consensus.specs.Rules.{no-station, was-cast, is-bit, as-bit, refuse, stage-number, number, claiming, holding, losing, step-from, effect, next, after}
-use Rattle.consensus.proofs.Basics.{by-bool, cond-ind, no-clash, update-ind, update-same, refused-not, not-false→true, or-false, any-found, is-bit-some}
+use Rattle.consensus.specs.State.{Stage, idle, waiting, voting, awaiting, seeking, finish-voting, finish-awaiting, decided, State, fresh, not-idle, claimed, held, answered, update, set-station}
+use Rattle.consensus.specs.Rules.{no-station, was-cast, is-bit, as-bit, stage-number, number, claiming, holding, losing, step-from, effect, next, after}
+use Rattle.consensus.proofs.Basics.{cond-ind, no-clash, update-ind, refused-not, not-false→true, or-false, any-found, is-bit-some}
 use Rattle.consensus.proofs.Invariant.{Part-ok, Inv, Stage-ok, Spelling}
 use Rattle.consensus.proofs.Grows.{Grows, grows-refl, part-grows}
 use Rattle.consensus.proofs.Own.{Kept, Own-grows, own-kept}

@@ -1,7 +1,7 @@
 -- The figure's state shows the play's: an event that is owned by one station changes that station's part and that process alike, and leaves
 -- every claim that somebody holds as it was; an ANSWER is a decision. So an event is accepted exactly where its label is allowed.
 -- Assumes nothing.
-use Prim.Native.Nat.{ℕ, suc, _<_, _≤_}
+use Prim.Native.Nat.{ℕ, _<_}
 use mathlib.Core.Path.{_≡_, refl, sym, subst, ap, _∙_, fun-ext}
 use mathlib.Core.Logic.{_⊎_, inl, inr}
 use mathlib.Core.Bool.{Bool, true, false, cond, not, _&&_, _||_}
@@ -11,9 +11,9 @@ use lib.Dec.{eqb, ltb}
 use borrow.Author.Tests.{lt-ltb}
 use Rattle.consensus.specs.Events.{Event, claim, deliver, step, lose, answer, Rule, byStation, byClaim, Opening, Openable, ballots}
 use Rattle.consensus.specs.State.{Stage, idle, waiting, Station, State, not-idle, claimed, claim-of, held, answered, update, set-station}
-use Rattle.consensus.specs.Rules.{any-below, is-bit, refuse, stage-number, number, claiming, holding, losing, step-from, effect, casting, was-cast, as-bit}
-use Rattle.consensus.specs.Figure.{View, Does, blocked, goes, broadcasts, proposes, known, event}
-use Rattle.consensus.specs.System.{Process, System, moved, sending, proposing, storing, crashing}
+use Rattle.consensus.specs.Rules.{any-below, is-bit, refuse, stage-number, number, claiming, holding, losing, step-from, effect, was-cast, as-bit}
+use Rattle.consensus.specs.Figure.{View, Does, broadcasts, known, event}
+use Rattle.consensus.specs.System.{Process, moved, sending, proposing, storing, crashing}
 use Rattle.consensus.specs.Runs.{provided, broadcast-by, advance-by, deliver-by, with-process, then, Label, decide, done, happens, happening}
 use Rattle.consensus.specs.Demand2.{figure-by, figure-of, place-by, Shows, Figure-state}
 use Rattle.consensus.proofs.Basics.{no-clash, update-ind, pair-ind, any-found, is-bit-some}

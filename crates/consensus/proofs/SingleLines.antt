@@ -2,16 +2,16 @@
 -- that whole events reach, and that one shows the play's. The other way, a STEP's lines are done one by one. Assumes nothing.
 use Prim.Native.Nat.{ℕ, zero, suc}
 use mathlib.Core.Path.{_≡_, refl, sym, subst, ap, _∙_, fun-ext}
-use mathlib.Core.Logic.{_⊎_, inl, inr}
-use mathlib.Core.Bool.{Bool, true, false, cond}
+use mathlib.Core.Logic.{inl, inr}
+use mathlib.Core.Bool.{Bool, cond}
 use mathlib.Core.Option.{Option, none, some, Option·some-injective}
 use Rattle.consensus.specs.Events.{Event, claim, deliver, step, lose, answer, History, start, _▷_, Rule, byStation, byClaim, Opening, Openable}
 use Rattle.consensus.specs.State.{Stage, idle, waiting, voting, awaiting, seeking, finish-voting, finish-awaiting, decided, State, claim-of}
 use Rattle.consensus.specs.Rules.{after}
-use Rattle.consensus.specs.Terms.{Fitting, Claims-fit}
+use Rattle.consensus.specs.Terms.{Claims-fit}
 use Rattle.consensus.specs.Figure.{known, event}
 use Rattle.consensus.specs.Figure2 as two
-use Rattle.consensus.specs.System.{System, view}
+use Rattle.consensus.specs.System.{view}
 use Rattle.consensus.specs.Runs.{stay, happening, run}
 use Rattle.consensus.specs.Demand2.{figure-by, figure-of, place-2, place-by, Figure-state, Shows, figure-after}
 use Rattle.consensus.specs.Lines.{Thinned, empty, kept, left-out, Inside, outset, put-back, lines-after, Within, Whole-events, Single-lines}

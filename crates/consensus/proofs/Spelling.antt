@@ -1,23 +1,22 @@
 -- What a STEP needs of bits, words and answers. A ballot's answer was cast, and was cast for a reason (Invariant): so the answer of
 -- round k is bit k of a claim that fits all answers before it; the word that takes it is still the answers so far. Assumes nothing.
-use Prim.Native.Nat.{ℕ, zero, suc, _+_, _*_, _^_, _<_, _≤_}
-use mathlib.Core.Path.{_≡_, refl, sym, subst, _∙_, ap}
+use Prim.Native.Nat.{ℕ, suc, _+_, _*_, _<_, _≤_}
+use mathlib.Core.Path.{_≡_, sym, subst, _∙_, ap}
 use mathlib.Core.Logic.{_⊎_, inl, inr, ⊎-elim}
 use mathlib.Core.Bool.{Bool, true, false, _&&_}
-use mathlib.Core.Option.{Option, none, some, Option·some-injective}
+use mathlib.Core.Option.{some, Option·some-injective}
 use native.Mathlib.Omega.{arith}
-use native.Mathlib.Decide.{decLt}
 use native.Mathlib.Nat.{eq-or-lt-of-le, le-of-suc-le-suc}
-use lib.Dec.{eqb, leb}
-use borrow.Author.Tests.{eqb-true, eqb-false, leb-true, leb-false}
+use lib.Dec.{leb}
+use borrow.Author.Tests.{leb-true, leb-false}
 use Rattle.bits.specs.Digits.{bit, bitLength}
 use Rattle.bits.specs.Words.{withBit, lowAgree}
 use Rattle.bits.proofs.Digits.{bit-ext, bit-zero, bit-above, length-bound}
 use Rattle.bits.proofs.Words.{bit-same, bit-other, agree-bits}
-use Rattle.consensus.specs.Events.{Rule, byStation, byClaim, Opening, rounds}
-use Rattle.consensus.specs.State.{State, claimed, claim-of, held}
+use Rattle.consensus.specs.Events.{Rule, byStation, byClaim, Opening}
+use Rattle.consensus.specs.State.{State, claim-of}
 use Rattle.consensus.specs.Rules.{bit-ballot, bit-ballot-by, finish-ballot, spelled, spelled-by, any-below}
-use Rattle.consensus.proofs.Basics.{by-bool, no-clash, and-true, any-found, any-none}
+use Rattle.consensus.proofs.Basics.{by-bool, and-true, any-found, any-none}
 use Rattle.consensus.proofs.Invariant.{Fits, Word, Candidate, Unfinished, Round, Round-by, Bit-cast, Finish-cast, Cast-ok, Inv}
 
 -- below suc k: below k, or k

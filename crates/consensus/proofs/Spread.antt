@@ -2,16 +2,16 @@
 -- ends where the event ends, since between stops it neither waits nor broadcasts. Assumes nothing.
 use Prim.Native.Nat.{ℕ, zero, suc, _≤_}
 use mathlib.Core.Path.{_≡_, refl, sym, subst, ap, _∙_, fun-ext}
-use mathlib.Core.Logic.{_⊎_, inl, inr}
+use mathlib.Core.Logic.{inl, inr}
 use mathlib.Core.Bool.{Bool, true, false, cond, not, _&&_}
-use mathlib.Core.Option.{Option, none, some}
+use mathlib.Core.Option.{Option, some}
 use native.Mathlib.Omega.{arith}
 use lib.Dec.{eqb, ltb}
-use Rattle.consensus.specs.Events.{Event, claim, deliver, step, lose, answer}
+use Rattle.consensus.specs.Events.{claim, deliver, step, lose, answer}
 use Rattle.consensus.specs.State.{update}
 use Rattle.consensus.specs.Figure.{View, Does, blocked, goes, broadcasts, proposes, Figure, onward, event}
 use Rattle.consensus.specs.System.{Process, System, view, moved, proposing}
-use Rattle.consensus.specs.Runs.{decide, then, provided, broadcast-by, advance-by, with-process, stay, live, done, happens, happening}
+use Rattle.consensus.specs.Runs.{decide, then, provided, broadcast-by, advance-by, with-process, stay, live, happens, happening}
 use Rattle.consensus.proofs.Basics.{by-bool, update-ind, update-same}
 use Rattle.consensus.proofs.Lawful.{seen, Moving, Lawful}
 use Rattle.consensus.proofs.Gather.{Ended, unsaid, Says-alike, says-first, onward-ended, onward-on, fall}

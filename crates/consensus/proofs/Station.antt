@@ -1,17 +1,16 @@
 -- What one event does to one station: its accepted STEP moves it as `step-from` says; a CLAIM takes it from idle to waiting; nothing else
 -- touches its stage. Assumes nothing.
-use Prim.Native.Nat.{ℕ, zero, suc, _<_, _≤_}
+use Prim.Native.Nat.{ℕ}
 use mathlib.Core.Path.{_≡_, refl, sym, subst, _∙_, ap}
 use mathlib.Core.Logic.{_⊎_, inl, inr}
 use mathlib.Core.Bool.{Bool, true, false, cond, _&&_}
-use mathlib.Core.Option.{Option, none, some}
 use lib.Dec.{eqb}
 use borrow.Author.Tests.{eqb-true, eq-eqb}
-use Rattle.consensus.specs.Events.{Event, claim, deliver, step, lose, answer, History, start, _▷_, Opening}
-use Rattle.consensus.specs.State.{Stage, idle, waiting, Station, State, claimed, claim-of, update}
-use Rattle.consensus.specs.Rules.{number, step-from, effect, next, after, claiming, holding, losing}
-use Rattle.consensus.specs.Terms.{is-step, accepts, takes}
-use Rattle.consensus.proofs.Basics.{by-bool, no-clash, update-ind, update-same, and-true}
+use Rattle.consensus.specs.Events.{Event, claim, deliver, step, lose, answer, Opening}
+use Rattle.consensus.specs.State.{Stage, idle, waiting, Station, State, update}
+use Rattle.consensus.specs.Rules.{number, step-from, effect, next}
+use Rattle.consensus.specs.Terms.{is-step}
+use Rattle.consensus.proofs.Basics.{no-clash, update-ind, update-same, and-true}
 use Rattle.consensus.proofs.Reached.{next-ind, claim-accepted, idle-of}
 
 pub next-accepted : (o : Opening) (st : State) (e : Event) → number o st e ≡ 0 → next o st e ≡ effect o st e

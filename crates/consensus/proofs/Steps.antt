@@ -2,7 +2,7 @@
 use Prim.Native.Nat.{ℕ, zero, suc, _+_, _*_, _%_, _^_, _<_, _≤_, zero-le}
 use mathlib.Core.Path.{_≡_, refl, sym, subst, _∙_, ap}
 use mathlib.Core.Logic.{_⊎_, inl, inr}
-use mathlib.Core.Bool.{Bool, true, false, not, cond, _&&_}
+use mathlib.Core.Bool.{Bool, true, false, _&&_}
 use mathlib.Core.Option.{Option, none, some, Option·none-ne-some, Option·some-injective}
 use native.Mathlib.Omega.{arith}
 use native.Mathlib.Nat.{lt-of-lt-of-le, mod-lt, lt-irrefl}
@@ -11,14 +11,14 @@ use borrow.Author.Tests.{eqb-true, eqb-false}
 use Rattle.bits.specs.Digits.{bit}
 use Rattle.bits.specs.Words.{withBit, lowAgree}
 use Rattle.bits.specs.Log.{ceilLog2}
-use Rattle.bits.proofs.Digits.{bit-ext, bit-zero, bit-above}
+use Rattle.bits.proofs.Digits.{bit-above}
 use Rattle.bits.proofs.Log.{log-enough}
-use Rattle.consensus.specs.Events.{Rule, byStation, byClaim, Opening, rounds}
-use Rattle.consensus.specs.State.{Stage, idle, waiting, voting, awaiting, seeking, finish-voting, finish-awaiting, decided, Station, State, not-idle, claimed, claim-of, held, answered, bit-of, update, set-station}
-use Rattle.consensus.specs.Rules.{bit-ballot, bit-ballot-by, finish-ballot, spelled, refuse, last-refusal, stage-number, first-stage, found, sought, finished, step-from}
-use Rattle.consensus.proofs.Basics.{by-bool, cond-ind, no-clash, update-ind, update-same, update-other, refused-not, not-false→true, and-true}
-use Rattle.consensus.proofs.Invariant.{Fits, Word, Candidate, Unfinished, Round, Round-by, Bit-cast, Finish-cast, Cast-ok, Spelling, Seeking, Decided-by, Stage-ok, Part-ok, Inv, votes, votes-by}
-use Rattle.consensus.proofs.Own.{Kept, Move, moved, move-kept}
+use Rattle.consensus.specs.Events.{Rule, byStation, byClaim, Opening}
+use Rattle.consensus.specs.State.{Stage, idle, waiting, voting, awaiting, seeking, finish-voting, finish-awaiting, decided, State, not-idle, claimed, claim-of, held, answered, bit-of, update, set-station}
+use Rattle.consensus.specs.Rules.{bit-ballot, bit-ballot-by, finish-ballot, spelled, stage-number, first-stage, found, finished, step-from}
+use Rattle.consensus.proofs.Basics.{cond-ind, no-clash, update-ind, update-same, refused-not, not-false→true, and-true}
+use Rattle.consensus.proofs.Invariant.{Fits, Word, Candidate, Unfinished, Round-by, Finish-cast, Cast-ok, Spelling, Seeking, Decided-by, Stage-ok, Part-ok, Inv, votes, votes-by}
+use Rattle.consensus.proofs.Own.{Kept, moved, move-kept}
 use Rattle.consensus.proofs.Spelling
 
 abbrev pub opening : ℕ → Rule → Opening

@@ -1,10 +1,9 @@
 -- The bound on supplied steps over whole lists: each step spends what its stage allows (Bound), and the last round is below R or K.
 -- Assumes nothing.
-use Prim.Native.Nat.{ℕ, zero, suc, _+_, _*_, _%_, _<_, _≤_, zero-le}
-use mathlib.Core.Path.{_≡_, refl, sym, subst, _∙_, ap}
+use Prim.Native.Nat.{ℕ, suc, _+_, _*_, _<_, _≤_}
+use mathlib.Core.Path.{_≡_, refl, sym, subst}
 use mathlib.Core.Logic.{_⊎_, inl, inr, ⊎-elim}
-use mathlib.Core.Bool.{Bool, true, false}
-use mathlib.Core.Option.{Option}
+use mathlib.Core.Bool.{true, false}
 use native.Mathlib.Omega.{arith}
 use native.Mathlib.Nat.{le-refl, le-trans, mul-le-mul-right}
 use Rattle.consensus.specs.Events.{Event, History, start, _▷_, Rule, byStation, byClaim, Opening, rounds}
@@ -13,7 +12,7 @@ use Rattle.consensus.specs.Rules.{finish-ballot, finished, step-from, st
 use Rattle.consensus.specs.Terms.{takes, Supplied, Supplied-steps, longest}
 use Rattle.consensus.specs.Demand3.{most-steps}
 use Rattle.consensus.proofs.Basics.{by-bool, no-clash}
-use Rattle.consensus.proofs.Invariant.{Part-ok, Inv, Unfinished}
+use Rattle.consensus.proofs.Invariant.{Part-ok}
 use Rattle.consensus.proofs.Grows.{Grows, fits-grows}
 use Rattle.consensus.proofs.Steps.{opening, idle-refused, decided-refused}
 use Rattle.consensus.proofs.Reached.{next-kept, reached, step-accepted}
@@ -21,7 +20,7 @@ use Rattle.consensus.proofs.Station.{taken, taken-station, untaken}
 use Rattle.consensus.proofs.Accepted.{holds-shown}
 use Rattle.consensus.proofs.Told.{by-claim}
 use Rattle.consensus.proofs.Longest.{round-short}
-use Rattle.consensus.proofs.Bound.{begun, Nearing, Spent, Spent-by, All-held, Advance, advance-le, first-spent, finished-spent, sought-spent}
+use Rattle.consensus.proofs.Bound.{begun, Spent, Spent-by, All-held, Advance, advance-le, first-spent, finished-spent, sought-spent}
 
 abbrev Part : Opening → State → ℕ → Stage → Type 0
 Part o st p g = Part-ok o st p g (st .station p .holds) (st .station p .cast)

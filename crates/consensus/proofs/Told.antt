@@ -1,28 +1,28 @@
 -- What the list tells of a station is what its stage says: the ballot it waits on, the ballots it voted in (0, 1, 2, .. in this order),
 -- the answers it took, and whether it has decided. Assumes nothing.
-use Prim.Native.Nat.{ℕ, zero, suc, _+_, _*_, _%_, _<_, _≤_}
+use Prim.Native.Nat.{ℕ, zero, suc, _+_, _%_, _<_}
 use mathlib.Core.Path.{_≡_, refl, sym, subst, _∙_, ap, ap₂, fun-ext}
-use mathlib.Core.Logic.{_⊎_, inl, inr, _↔_, ⊎-elim}
+use mathlib.Core.Logic.{_⊎_, inl, inr, ⊎-elim}
 use mathlib.Core.Bool.{Bool, true, false, cond, _&&_}
 use mathlib.Core.Option.{Option, none, some, Option·none-ne-some, Option·some-injective}
 use mathlib.Core.List.{List, [], _∷_, _++_, map, append-nil, map-append}
 use native.Mathlib.Omega.{arith}
 use native.Mathlib.Nat.{le-refl, le-step, not-suc-le-zero}
 use lib.Dec.{eqb}
-use borrow.Author.Tests.{eqb-true, eqb-false, eq-eqb, ne-eqb}
+use borrow.Author.Tests.{eqb-true, eq-eqb, ne-eqb}
 use Rattle.bits.specs.Words.{lowAgree}
 use Rattle.bits.specs.Log.{ceilLog2}
-use Rattle.consensus.specs.Events.{Event, claim, deliver, step, lose, answer, History, start, _▷_, Rule, byStation, byClaim, Opening, rounds}
-use Rattle.consensus.specs.State.{Stage, idle, waiting, voting, awaiting, seeking, finish-voting, finish-awaiting, decided, Station, State, fresh, claim-of, held, answered, bit-of, update}
+use Rattle.consensus.specs.Events.{Event, claim, deliver, step, lose, answer, History, start, _▷_, Rule, byStation, byClaim, Opening}
+use Rattle.consensus.specs.State.{Stage, idle, waiting, voting, awaiting, seeking, finish-voting, finish-awaiting, decided, Station, State, claim-of, held, answered, bit-of}
 use Rattle.consensus.specs.Rules.{bit-ballot, finish-ballot, spelled, as-bit, number, first-stage, found, sought, finished, step-from, stage-number, effect, next, after}
-use Rattle.consensus.specs.Terms.{ballot-at, decision, given, or-else, listed, paired, with-answer, is-step, accepts, takes, first-answer, voted-in, waits-on, answers-taken, Decided}
+use Rattle.consensus.specs.Terms.{ballot-at, decision, given, or-else, listed, paired, with-answer, accepts, takes, first-answer, voted-in, waits-on, answers-taken, Decided}
 use Rattle.consensus.specs.Told.{awaited}
 use Rattle.consensus.specs.Demand3.{first-ballots}
-use Rattle.consensus.proofs.Basics.{by-bool, cond-ind, no-clash, update-ind, update-same, refused-not, not-false→true}
-use Rattle.consensus.proofs.Invariant.{Part-ok, Inv, votes, votes-by}
+use Rattle.consensus.proofs.Basics.{by-bool, cond-ind, no-clash, update-ind, refused-not, not-false→true}
+use Rattle.consensus.proofs.Invariant.{Part-ok, votes, votes-by}
 use Rattle.consensus.proofs.Spelling.{below-suc}
 use Rattle.consensus.proofs.Steps.{one-station, opening, idle-refused, decided-refused}
-use Rattle.consensus.proofs.Reached.{next-ind, answer-accepted, step-accepted, unanswered-none, next-kept, reached}
+use Rattle.consensus.proofs.Reached.{answer-accepted, step-accepted, unanswered-none, next-kept, reached}
 use Rattle.consensus.proofs.Station.{Taken, taken, taken-station, taken-answers, untaken}
 
 -- ---- the first accepted ANSWER is the answer that the play keeps

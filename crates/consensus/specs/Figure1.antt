@@ -1,7 +1,7 @@
 -- Figure 1 of paper 000: the algorithm linear to the length of process identifiers ("by station"). Assumes nothing.
 use Prim.Native.Nat.{ℕ, suc, _+_, _%_}
 use mathlib.Core.Bool.{Bool, true, false, cond, _&&_}
-use mathlib.Core.Option.{Option, none, some}
+use mathlib.Core.Option.{Option}
 use lib.Dec.{ltb}
 use Rattle.bits.specs.Digits.{bit}
 use Rattle.bits.specs.Words.{withBit, lowAgree}

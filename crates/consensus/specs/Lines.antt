@@ -3,7 +3,7 @@
 -- Assumes nothing.
 use Prim.Native.Nat.{ℕ}
 use mathlib.Core.Path.{_≡_}
-use mathlib.Core.Bool.{Bool, true, false}
+use mathlib.Core.Bool.{true, false}
 use Rattle.consensus.specs.Events.{Event, step, History, start, _▷_, Rule, Opening, Openable}
 use Rattle.consensus.specs.Rules.{after}
 use Rattle.consensus.specs.Terms.{Claims-fit}

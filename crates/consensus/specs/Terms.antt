@@ -1,17 +1,16 @@
 -- The words of demand 3 (document 01, "Lists of events"), read off a list of events with the play alongside:
 -- each is a recursion over the list, and asks the play only which events were accepted and where a station stood. Assumes nothing.
-use Prim.Native.Nat.{ℕ, suc, _+_, _*_, _^_, _≤_, _<_, max}
+use Prim.Native.Nat.{ℕ, suc, _+_, _^_, _<_, max}
 use mathlib.Core.Path.{_≡_}
 use mathlib.Core.Logic.{_⊎_}
 use mathlib.Core.Bool.{Bool, true, false, cond, _&&_}
 use mathlib.Core.Option.{Option, none, some}
 use mathlib.Core.List.{List, [], _∷_, _++_}
 use lib.Dec.{eqb}
-use lib.ListN.{length}
 use Rattle.bits.specs.Digits.{bitLength}
 use Rattle.bits.specs.Words.{claimBits}
 use Rattle.consensus.specs.Events.{Event, claim, deliver, step, lose, answer, History, start, _▷_, Opening}
-use Rattle.consensus.specs.State.{Stage, idle, waiting, voting, awaiting, seeking, finish-voting, finish-awaiting, decided, State}
+use Rattle.consensus.specs.State.{Stage, idle, waiting, voting, awaiting, seeking, finish-voting, finish-awaiting, decided}
 use Rattle.consensus.specs.Rules.{bit-ballot, finish-ballot, as-bit, number, after}
 
 -- g is a beginning of h

@@ -3,7 +3,6 @@ use Prim.Native.Nat.{ℕ}
 use mathlib.Core.Path.{_≡_}
 use borrow.Author.Tests.{ne-eqb, eq-eqb}
 use Rattle.settlement.specs.declared.record.Settlement.{Settlement}
-use Rattle.settlement.specs.declared.record.Outcome.{Outcome}
 use Rattle.settlement.specs.Events.{outcome}
 
 pub refused-outcome : (k : ℕ) (next given : Settlement) → (k ≡ 0 → ⊥) → outcome k next given ≡ record { number = k; settlement = given }

@@ -1,7 +1,7 @@
 -- The votes that LOOK shows fit a byte: a LOOK that is not refused is of a record that passes the record test. Assumes nothing.
 use Prim.Native.Nat.{ℕ, _+_, _*_, _<_}
 use native.Mathlib.Omega.{arith}
-use mathlib.Core.Path.{_≡_, refl, sym, ap, _∙_}
+use mathlib.Core.Path.{_≡_, refl}
 use mathlib.Core.Bool.{true, false, _||_}
 use mathlib.Core.List.{_∷_, []}
 use borrow.Author.Tests.{ltb-true}
@@ -12,7 +12,7 @@ use Rattle.settlement.specs.declared.record.Stage.{Stage}
 use Rattle.settlement.specs.declared.record.Stage.the-variants.{Idle, Waiting, Voting, Awaiting, Seeking, FinishVoting, FinishAwaiting, Decided}
 use Rattle.settlement.specs.declared.record.Settlement.{Settlement}
 use Rattle.settlement.specs.Record.{entry, by-station, rounds, no-station}
-use Rattle.settlement.specs.Fault.{in-round, on-finish, past-waiting, fault}
+use Rattle.settlement.specs.Fault.{in-round, on-finish, fault}
 use Rattle.settlement.specs.Tests.{when, first-met, look-tests}
 use Rattle.settlement.specs.Look.{votes}
 use Rattle.settlement.proofs.Range.{few-stations, round-below, round-by-claim}

@@ -5,7 +5,7 @@ use mathlib.Core.Path.{_≡_}
 use mathlib.Core.Bool.{Bool, cond}
 use mathlib.Core.Option.{Option, none, some}
 use Rattle.bits.specs.Words.{member}
-use Rattle.consensus.specs.Events.{Event, History, start, _▷_, Rule, byStation, byClaim, Opening}
+use Rattle.consensus.specs.Events.{History, start, _▷_, Rule, byStation, byClaim, Opening}
 use Rattle.consensus.specs.State as play
 use Rattle.consensus.specs.Rules.{any-below, is-bit}
 use Rattle.settlement.specs.declared.record.Stage.{Stage}

@@ -7,7 +7,7 @@ use Rattle.settlement.specs.declared.record.Stage.the-variants.{Idle, Wa
 use Rattle.settlement.specs.declared.record.Station.{Station}
 use Rattle.settlement.specs.declared.record.Settlement.{Settlement}
 use Rattle.settlement.specs.declared.record.Standing.{Standing}
-use Rattle.settlement.specs.Record.{entry, by-station, rounds, bit-ballot, is-decided}
+use Rattle.settlement.specs.Record.{entry, by-station, rounds, is-decided}
 use Rattle.settlement.specs.Tests.{first-met, look-tests}
 
 -- "Votes: idle and waiting 0; rule 1 k when voting, k + 1 when awaiting or seeking, R when decided;

@@ -5,7 +5,7 @@ use mathlib.Core.Bool.{Bool, true, false, cond, not}
 use lib.Dec.{eqb, ltb}
 use lib.ListN.{getD, set}
 use Rattle.bits.specs.Log.{ceilLog2}
-use Rattle.bits.specs.Words.{claimBits, member, insert}
+use Rattle.bits.specs.Words.{claimBits, insert}
 use Rattle.settlement.specs.declared.record.Stage.{Stage}
 use Rattle.settlement.specs.declared.record.Stage.the-variants.{Idle, Waiting, Voting, Awaiting, Seeking, FinishVoting, FinishAwaiting, Decided}
 use Rattle.settlement.specs.declared.record.Station.{Station}

@@ -1,9 +1,9 @@
 -- What one accepted STEP does (document 01, "What one STEP does"): the record after it. "What a step does not name stays." Assumes nothing.
 use Prim.Native.Nat.{ℕ, _+_, _%_}
-use mathlib.Core.Bool.{Bool, true, false, cond, _&&_}
+use mathlib.Core.Bool.{Bool, cond, _&&_}
 use lib.Dec.{eqb}
 use Rattle.bits.specs.Digits.{bit}
-use Rattle.bits.specs.Words.{claimBits, withBit, lowAgree, member}
+use Rattle.bits.specs.Words.{withBit, lowAgree, member}
 use Rattle.consensus.specs.Rules.{finish-ballot}
 use Rattle.settlement.specs.declared.record.Stage.{Stage}
 use Rattle.settlement.specs.declared.record.Stage.the-variants.{Idle, Waiting, Voting, Awaiting, Seeking, FinishVoting, FinishAwaiting, Decided}

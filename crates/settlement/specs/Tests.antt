@@ -1,7 +1,7 @@
 -- What each operation is turned away for (document 01, "Operations and what they turn away"): its tests in the order written, each with its number.
 -- The first test met gives the number, and 0 is accepted. Assumes nothing.
-use Prim.Native.Nat.{ℕ, pred, _+_}
-use mathlib.Core.Bool.{Bool, true, false, not, _&&_, _||_}
+use Prim.Native.Nat.{ℕ, pred}
+use mathlib.Core.Bool.{Bool, false, not, _&&_, _||_}
 use mathlib.Core.List.{List, [], _∷_}
 use lib.Dec.{eqb, ltb}
 use Rattle.bits.specs.Words.{member}

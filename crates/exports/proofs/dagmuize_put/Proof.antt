@@ -1,8 +1,6 @@
 -- `exports::dagmuize_put`: the tag's row, then PUT. Assumes nothing.
-use mathlib.Core.Path.{_≡_, refl, sym, ap, _∙_}
 use native.Mathlib.Omega.{arith}
 use denote.Ref.{now}
-use Rattle.log.specs.Put.{put-number, put-count}
 use Rattle.exports.specs.Exports.{put-answer, put-after}
 use Rattle.exports.proofs.Counts.{few-bytes}
 use borrow.Author.Needs.{needs}

@@ -2,10 +2,9 @@
 -- what the list tells of the station. Assumes nothing.
 use Prim.Native.Nat.{ℕ, zero, suc, _+_, _*_, _<_, _≤_, zero-le}
 use mathlib.Core.Path.{_≡_, refl, sym, subst, _∙_, ap, ap₂}
-use mathlib.Core.Logic.{_↔_, _⊎_, inl, inr}
+use mathlib.Core.Logic.{inl, inr}
 use mathlib.Core.Bool.{Bool, true, false, cond, not, _||_}
-use mathlib.Core.Option.{Option, none, some, Option·none-ne-some, Option·some-injective}
-use mathlib.Core.List.{List}
+use mathlib.Core.Option.{none, some, Option·none-ne-some, Option·some-injective}
 use native.Mathlib.Omega.{arith}
 use native.Mathlib.Nat.{pos-of-ne-zero}
 use native.Mathlib.Numerals.{add-one}
@@ -40,7 +39,7 @@ use Rattle.settlement.specs.Tests.{first-met, open-tests, look-tests, nu
 use Rattle.settlement.specs.Events.{outcome, fresh, blank, opened, effect, played}
 use Rattle.settlement.specs.Look.{votes, standing, turned-away, looked}
 use Rattle.settlement.specs.Link.{rule-number, record-after, stage-of, answer-in, Shows-play}
-use Rattle.settlement.specs.Demands.{Answers-told, Sound, Demand2-of-records, Demand3-of-records, blank-number, Demands}
+use Rattle.settlement.specs.Demands.{Answers-told, Sound, Demand2-of-records, blank-number, Demands}
 use Rattle.settlement.proofs.Link.Linked.{Entry-shows, Linked, linked-shows}
 use Rattle.settlement.proofs.Link.Faultless.{none-below, rule-known, faultless}
 use Rattle.settlement.proofs.Link.Numbers.{bit-ballot-same, number-same}

@@ -1,13 +1,13 @@
 -- Each accepted event keeps the tie between record and play: the entry it replaces shows the station's new part, and a vote is marked in its
 -- ballot. Assumes nothing.
-use Prim.Native.Nat.{ℕ, zero, suc, _+_, _*_, _%_, _^_, _<_, _≤_}
+use Prim.Native.Nat.{ℕ, suc, _+_, _%_, _<_, _≤_}
 use mathlib.Core.Path.{_≡_, refl, sym, subst, _∙_, ap, ap₂}
-use mathlib.Core.Bool.{Bool, true, false, cond, not, _&&_, _||_}
+use mathlib.Core.Bool.{Bool, true, false, cond, _&&_}
 use mathlib.Core.Option.{Option, none, some}
 use native.Mathlib.Omega.{arith}
 use native.Mathlib.Nat.{le-refl, lt-of-lt-of-le, mod-lt}
 use native.Mathlib.Numerals.{add-one}
-use lib.Dec.{eqb, lit≤}
+use lib.Dec.{eqb}
 use Rattle.bits.specs.Digits.{bit}
 use Rattle.bits.specs.Words.{withBit, lowAgree, member, insert}
 use Rattle.bits.specs.Log.{ceilLog2}
@@ -18,22 +18,21 @@ use Rattle.consensus.specs.Events as events
 use Rattle.consensus.specs.State as play
 use Rattle.consensus.specs.Rules as rules
 use Rattle.consensus.specs.Rules.{finish-ballot, as-bit, spelled-by, stage-number}
-use Rattle.consensus.proofs.Basics.{by-bool, cond-ind, no-clash, update-ind, not-false→true, refused-not}
-use Rattle.consensus.proofs.Invariant.{Stage-ok, Part-ok, Inv}
+use Rattle.consensus.proofs.Basics.{no-clash, update-ind, not-false→true, refused-not}
+use Rattle.consensus.proofs.Invariant.{Part-ok, Inv}
 use Rattle.consensus.proofs.Own.{moved as part-moved}
 use Rattle.consensus.proofs.Ballots.{Short, bit-below, finish-ballot-below}
 use Rattle.consensus.proofs.Spelling.{unfinished-of}
-use Rattle.consensus.proofs.Steps.{opening, some-answer, idle-refused, decided-refused}
+use Rattle.consensus.proofs.Steps.{idle-refused, decided-refused}
 use Rattle.consensus.proofs.Reached.{claim-accepted, deliver-accepted, step-accepted, lose-accepted, answer-accepted}
 use Rattle.settlement.specs.declared.record.Stage.{Stage}
 use Rattle.settlement.specs.declared.record.Stage.the-variants.{Idle, Waiting, Voting, Awaiting, Seeking, FinishVoting, FinishAwaiting, Decided}
 use Rattle.settlement.specs.declared.record.Station.{Station}
-use Rattle.settlement.specs.declared.record.Ballot.{Ballot}
 use Rattle.settlement.specs.declared.record.Settlement.{Settlement}
-use Rattle.settlement.specs.Record.{ballotEntries, entry, ballot, with-station, with-ballot, by-station, bit-ballot, not-idle, spelled, claiming, holding, losing, moved, casting, answering}
+use Rattle.settlement.specs.Record.{ballotEntries, entry, ballot, with-station, with-ballot, bit-ballot, not-idle, spelled, claiming, holding, losing, moved, casting, answering}
 use Rattle.settlement.specs.Step.{started, staged, voted, bit-taken, finish-taken, found, sought, stepped}
 use Rattle.settlement.specs.Events.{effect}
-use Rattle.settlement.specs.Link.{rule-number, stage-of, stands-at, answer-in}
+use Rattle.settlement.specs.Link.{rule-number, stage-of}
 use Rattle.settlement.proofs.Link.Linked.{Early, Entry-shows, Linked, own-linked, vote-linked, answer-linked}
 use Rattle.settlement.proofs.Link.Numbers.{idle-same, ballot-of-round, ballot-answered, answer-same}
 

@@ -1,8 +1,8 @@
 -- A record that is tied to a reached state does not meet the record test: cursors are stations, by station rounds are below R and nobody is on
 -- a finish ballot, by claim rounds are below 32, since a finish answer 0 tells of a claim with a higher bit. Assumes nothing.
-use Prim.Native.Nat.{ℕ, suc, _<_, _≤_}
+use Prim.Native.Nat.{ℕ, _<_}
 use mathlib.Core.Path.{_≡_, refl, sym, subst, _∙_, ap, ap₂}
-use mathlib.Core.Bool.{Bool, true, false, not, _&&_, _||_}
+use mathlib.Core.Bool.{Bool, false, not, _&&_, _||_}
 use mathlib.Core.Option.{Option}
 use lib.Dec.{eqb, ltb, leb}
 use borrow.Author.Tests.{lt-leb, le-ltb}
@@ -22,8 +22,8 @@ use Rattle.settlement.specs.declared.record.Station.{Station}
 use Rattle.settlement.specs.declared.record.Settlement.{Settlement}
 use Rattle.settlement.specs.Record.{stationEntries, entry}
 use Rattle.settlement.specs.Fault.{in-round, on-finish, past-waiting, station-fault, fault}
-use Rattle.settlement.specs.Link.{rule-number, stage-of, stands-at}
-use Rattle.settlement.proofs.Link.Linked.{Linked, Entry-shows}
+use Rattle.settlement.specs.Link.{rule-number, stage-of}
+use Rattle.settlement.proofs.Link.Linked.{Linked}
 
 pub none-below : (n : ℕ) (f : ℕ → Bool) → ((i : ℕ) → i < n → f i ≡ false) → any-below n f ≡ false
 none-below n f g = by-bool (any-below n f) (λ e. let t = any-found n f e in no-clash (f (t .0)) (t .2) (g (t .0) (t .1))) (λ e. e)

@@ -1,8 +1,8 @@
 -- What ties a record to a play's state: it shows the state, its arrays are whole, cursors are stations, and before the first vote round and
 -- word are 0. An event that replaces one entry keeps the tie where the new entry shows the station's new part. Assumes nothing.
-use Prim.Native.Nat.{ℕ, suc, _<_, _≤_}
+use Prim.Native.Nat.{ℕ, _<_}
 use mathlib.Core.Path.{_≡_, refl, sym, subst, _∙_, ap, fun-ext}
-use mathlib.Core.Bool.{Bool, true, false, cond, Bool·beq}
+use mathlib.Core.Bool.{Bool, true, false, Bool·beq}
 use mathlib.Core.Option.{Option, none, some}
 use mathlib.Core.List.{List}
 use native.Mathlib.Nat.{lt-of-lt-of-le}
@@ -10,7 +10,7 @@ use lib.Dec.{eqb}
 use lib.ListN.{length, getD, set, length-set}
 use lib.Seq.{getD-set-same, getD-set-other}
 use Rattle.bits.specs.Words.{member}
-use Rattle.consensus.specs.Events.{Rule, byStation, byClaim, Opening, Openable}
+use Rattle.consensus.specs.Events.{Opening, Openable}
 use Rattle.consensus.specs.State as play
 use Rattle.consensus.specs.Rules.{any-below, is-bit}
 use borrow.Author.Tests.{eqb-true, eqb-false}

@@ -1,11 +1,10 @@
 -- Each event has one number on a record and in the play, where the record is tied to a reached state: the tests are the same, one by one.
 -- Assumes nothing.
-use Prim.Native.Nat.{ℕ, zero, suc, _+_, _*_, _<_, _≤_}
+use Prim.Native.Nat.{ℕ, suc, _*_, _<_}
 use mathlib.Core.Path.{_≡_, refl, sym, subst, _∙_, ap, ap₂}
 use mathlib.Core.Bool.{Bool, true, false, cond, not, _&&_, _||_}
 use mathlib.Core.Option.{Option, none, some}
 use native.Mathlib.Omega.{arith}
-use native.Mathlib.Numerals.{add-one}
 use lib.Dec.{eqb, ltb, eqb·suc-suc}
 use borrow.Author.Tests.{ne-eqb}
 use Rattle.bits.specs.Log.{ceilLog2}
@@ -24,11 +23,10 @@ use Rattle.settlement.specs.declared.record.Stage.the-variants.{Idle, Wa
 use Rattle.settlement.specs.declared.record.Station.{Station}
 use Rattle.settlement.specs.declared.record.Ballot.{Ballot}
 use Rattle.settlement.specs.declared.record.Settlement.{Settlement}
-use Rattle.settlement.specs.Record.{ballotEntries, entry, ballot, ballots, bit-ballot, no-station, not-idle, is-decided, was-cast}
-use Rattle.settlement.specs.Fault.{fault}
+use Rattle.settlement.specs.Record.{ballotEntries, entry, ballot, ballots, bit-ballot, no-station, not-idle, is-decided}
 use Rattle.settlement.specs.Tests.{first-met, must-wait, takes-last-no, last-ballot, number, event-tests}
-use Rattle.settlement.specs.Link.{rule-number, stage-of, stands-at, answer-in}
-use Rattle.settlement.proofs.Link.Linked.{Linked, Entry-shows}
+use Rattle.settlement.specs.Link.{rule-number, stage-of, answer-in}
+use Rattle.settlement.proofs.Link.Linked.{Linked}
 use Rattle.settlement.proofs.Link.Faultless.{faultless}
 
 -- the same test, and then the same rest

@@ -4,7 +4,6 @@ use mathlib.Core.Path.{_≡_}
 use native.Mathlib.Omega.{arith}
 use native.Mathlib.Numerals.{add-one}
 use denote.Ref.{now}
-use borrow.Author.Needs.{needs}
 use Rattle.report.specs.Text.{station-lines}
 use Rattle.report.specs.Written.{Wrote}
 use Rattle.report.proofs.Written.{and-then, at-most, nothing, kept}
