@@ -4,8 +4,8 @@ use mathlib.Core.Path.{_≡_, refl}
 use Rattle.bits.specs.Digits.{digitsIn, binaryDigits, bitLength, bit}
 use Rattle.bits.specs.Words.{withBit}
 use Rattle.bits.specs.Log.{leastFrom, ceilLog2}
-use Rattle.bits.specs.Examples.{right, allRight, written}
+use Rattle.bits.specs.Examples.{right, every, written}
 
-pub examples : allRight written ≡ true
-unfolding digitsIn binaryDigits bitLength bit withBit leastFrom ceilLog2 right allRight
+pub examples : every right written ≡ true
+unfolding digitsIn binaryDigits bitLength bit withBit leastFrom ceilLog2 right
 examples = refl

@@ -20,9 +20,10 @@ right (logOf n r) = eqb (ceilLog2 n) r
 right (bitOf k n b) = Bool·beq (bit k n) b
 right (writing k b n m) = eqb (withBit k b n) m
 
-unfoldable pub allRight : List Example → Bool
-allRight [] = true
-allRight (e ∷ es) = right e && allRight es
+-- every entry of a list passes a test
+abbrev pub every : {A : Type 0} → (A → Bool) → List A → Bool
+every f [] = true
+every f (x ∷ l) = f x && every f l
 
 abbrev pub written : List Example
 written =

@@ -101,17 +101,17 @@ module _ (o : Opening) (h : History) (fit : Claims-fit h) where
   pub no-42 : (e : Event) → number o (after o h) e ≡ 42 → ⊥
   unfolding number lost-test
   no-42 (claim s v) e =
-      refuse-other (no-station o s) 1 _ refl (refuse-other (lost-test s) 2 _ refl (refuse-other (claimed (after o h) s) 3 0 refl zero-other)) e
+      refuse-other (no-station o s) _ _ refl (refuse-other (lost-test s) _ _ refl (refuse-other (claimed (after o h) s) _ 0 refl zero-other)) e
   no-42 (deliver t s) e =
-      refuse-other (no-station o t || no-station o s) 1 _ refl
-      (refuse-other (lost-test s) 2 _ refl
-      (refuse-other (not (claimed (after o h) t)) 4 _ refl (refuse-other (held (after o h) s t) 5 0 refl zero-other)))
+      refuse-other (no-station o t || no-station o s) _ _ refl
+      (refuse-other (lost-test s) _ _ refl
+      (refuse-other (not (claimed (after o h) t)) 4 _ refl (refuse-other (held (after o h) s t) _ 0 refl zero-other)))
       e
   no-42 (step s) e =
-      refuse-other (no-station o s) 1 _ refl (refuse-other (lost-test s) 2 _ refl (stage-other s (after o h .station s .stage) (reached o h .parts s))) e
-  no-42 (lose s) e = refuse-other (no-station o s) 1 _ refl (refuse-other (lost-test s) 2 0 refl zero-other) e
+      refuse-other (no-station o s) _ _ refl (refuse-other (lost-test s) _ _ refl (stage-other s (after o h .station s .stage) (reached o h .parts s))) e
+  no-42 (lose s) e = refuse-other (no-station o s) _ _ refl (refuse-other (lost-test s) _ 0 refl zero-other) e
   no-42 (answer b a) e =
       refuse-other (not (ltb b (ballots o))) 9 _ refl
-      (refuse-other (ltb 1 a) 10 _ refl
-      (refuse-other (answered (after o h .answer-of b)) 11 _ refl (refuse-other (not (was-cast o (after o h) b (as-bit a))) 12 0 refl zero-other)))
+      (refuse-other (ltb 1 a) _ _ refl
+      (refuse-other (answered (after o h .answer-of b)) _ _ refl (refuse-other (not (was-cast o (after o h) b (as-bit a))) 12 0 refl zero-other)))
       e

@@ -34,9 +34,9 @@ module _ (o : Opening) (st : State) where
   pub claim-accepted : (s v : ℕ) → number o st (claim s v) ≡ 0 → Claim-accepted s v
   unfolding number
   claim-accepted s v e =
-      let a = refused-not _ 1 _ refl e in
-      let b = refused-not _ 2 _ refl (a .1) in
-      let c = refused-not _ 3 _ refl (b .1) in
+      let a = refused-not _ _ _ refl e in
+      let b = refused-not _ _ _ refl (a .1) in
+      let c = refused-not _ _ _ refl (b .1) in
       record { station = station-below o s (a .0); live = b .0; unclaimed = c .0 }
 
   pub record Deliver-accepted (t s : ℕ) : Type 0 where
@@ -49,10 +49,10 @@ module _ (o : Opening) (st : State) where
   pub deliver-accepted : (t s : ℕ) → number o st (deliver t s) ≡ 0 → Deliver-accepted t s
   unfolding number
   deliver-accepted t s e =
-      let a = refused-not _ 1 _ refl e in
-      let b = refused-not _ 2 _ refl (a .1) in
-      let c = refused-not _ 4 _ refl (b .1) in
-      let d = refused-not _ 5 _ refl (c .1) in
+      let a = refused-not _ _ _ refl e in
+      let b = refused-not _ _ _ refl (a .1) in
+      let c = refused-not _ _ _ refl (b .1) in
+      let d = refused-not _ _ _ refl (c .1) in
       let both = or-false (no-station o t) (no-station o s) (a .0) in
       record {
         sender = station-below o t (both .0);
@@ -70,8 +70,8 @@ module _ (o : Opening) (st : State) where
   pub step-accepted : (s : ℕ) → number o st (step s) ≡ 0 → Step-accepted s
   unfolding number
   step-accepted s e =
-      let a = refused-not _ 1 _ refl e in
-      let b = refused-not _ 2 _ refl (a .1) in
+      let a = refused-not _ _ _ refl e in
+      let b = refused-not _ _ _ refl (a .1) in
       record { station = station-below o s (a .0); live = b .0; stage = b .1 }
 
   pub record Lose-accepted (s : ℕ) : Type 0 where
@@ -81,8 +81,8 @@ module _ (o : Opening) (st : State) where
   pub lose-accepted : (s : ℕ) → number o st (lose s) ≡ 0 → Lose-accepted s
   unfolding number
   lose-accepted s e =
-      let a = refused-not _ 1 _ refl e in
-      let b = refused-not _ 2 _ refl (a .1) in
+      let a = refused-not _ _ _ refl e in
+      let b = refused-not _ _ _ refl (a .1) in
       record { station = station-below o s (a .0); live = b .0 }
 
   pub record Answer-accepted (b a : ℕ) : Type 0 where
@@ -96,10 +96,10 @@ module _ (o : Opening) (st : State) where
   pub answer-accepted : (b a : ℕ) → number o st (answer b a) ≡ 0 → Answer-accepted b a
   unfolding number
   answer-accepted b a e =
-      let p = refused-not _ 9 _ refl e in
-      let q = refused-not _ 10 _ refl (p .1) in
-      let r = refused-not _ 11 _ refl (q .1) in
-      let t = refused-not _ 12 _ refl (r .1) in
+      let p = refused-not _ _ _ refl e in
+      let q = refused-not _ _ _ refl (p .1) in
+      let r = refused-not _ _ _ refl (q .1) in
+      let t = refused-not _ _ _ refl (r .1) in
       let f = any-found (o .count) (λ s. is-bit (as-bit a) (st .station s .cast b)) (not-false→true _ (t .0)) in
       record {
         ballot = ltb-true b _ (not-false→true _ (p .0));

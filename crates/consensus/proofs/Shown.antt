@@ -1,7 +1,7 @@
 -- The figure's state shows the play's: an event that is owned by one station changes that station's part and that process alike, and leaves
 -- every claim that somebody holds as it was; an ANSWER is a decision. So an event is accepted exactly where its label is allowed.
 -- Assumes nothing.
-use Prim.Native.Nat.{ℕ, _<_}
+use Prim.Native.Nat.{ℕ, suc, _<_}
 use mathlib.Core.Path.{_≡_, refl, sym, subst, ap, _∙_, fun-ext}
 use mathlib.Core.Logic.{_⊎_, inl, inr}
 use mathlib.Core.Bool.{Bool, true, false, cond, not, _&&_, _||_}
@@ -90,12 +90,12 @@ module _ (o : Opening) where
     -- ---- verdicts
 
     -- an event owned by the station s: refused where there is no such station or it is lost, and else as the process may
-    owned : (a l c : Bool) (m s : ℕ) (r : Option (Process (figure-of o .Place))) (T : Process (figure-of o .Place) → Type 0) (W : Figure-state o → Type 0)
+    owned : (a l c : Bool) (j k m s : ℕ) (r : Option (Process (figure-of o .Place))) (T : Process (figure-of o .Place) → Type 0) (W : Figure-state o → Type 0)
         → c ≡ l → ((q : Process (figure-of o .Place)) → T q → W (put s q)) → Verdict m r T
-        → Verdict (refuse (not a) 1 (refuse l 2 m)) (provided (a && not c) (with-process x s r)) W
-    owned a l c m s r T W e f v = subst (λ (b : Bool). Verdict (refuse (not a) 1 (refuse l 2 m)) (provided (a && not b) (with-process x s r)) W) (sym e) (go a l v)
+        → Verdict (refuse (not a) (suc j) (refuse l (suc k) m)) (provided (a && not c) (with-process x s r)) W
+    owned a l c j k m s r T W e f v = subst (λ (b : Bool). Verdict (refuse (not a) (suc j) (refuse l (suc k) m)) (provided (a && not b) (with-process x s r)) W) (sym e) (go a l v)
       where
-        go : (a l : Bool) → Verdict m r T → Verdict (refuse (not a) 1 (refuse l 2 m)) (provided (a && not l) (with-process x s r)) W
+        go : (a l : Bool) → Verdict m r T → Verdict (refuse (not a) (suc j) (refuse l (suc k) m)) (provided (a && not l) (with-process x s r)) W
         go false l v = neither (λ z. omega arith) refl
         go true true v = neither (λ z. omega arith) refl
         go true false (both z q w t) = both z (put s q) (ap (with-process x s) w) (f q t)
@@ -175,7 +175,7 @@ module _ (o : Opening) where
     claim-verdict : Inv o st → Openable o → (s v : ℕ) → Judged st x (claim s v)
     unfolding number effect happens
     claim-verdict inv ok s v =
-        owned (ltb s (o .count)) (st .station s .lost) (x .process s .crashed) (refuse (claimed st s) 3 0) s (broadcast-by v (x .process s) (does s))
+        owned (ltb s (o .count)) (st .station s .lost) (x .process s .crashed) _ _ (refuse (claimed st s) 3 0) s (broadcast-by v (x .process s) (does s))
         (Claimed-now s v) (λ y. Shows o (set-station st s (claiming v (st .station s))) y) (shows .crashed s)
         (λ q t.
         own-shows inv s (claiming v (st .station s)) q (t .0) (λ c. no-clash (claimed st s) c (t .1)) (λ i h. inv .parts s .holdings i h .2))
@@ -232,7 +232,7 @@ module _ (o : Opening) where
     step-verdict : Inv o st → In-bounds o st → Openable o → (s : ℕ) → Judged st x (step s)
     unfolding number effect happens
     step-verdict inv within ok s =
-        owned (ltb s (o .count)) (st .station s .lost) (x .process s .crashed) (stage-number o st s (st .station s .stage)) s (advance-by (x .process s) (does s))
+        owned (ltb s (o .count)) (st .station s .lost) (x .process s .crashed) _ _ (stage-number o st s (st .station s .stage)) s (advance-by (x .process s) (does s))
         (Stepped s p) (λ y. Shows o (set-station st s p) y) (shows .crashed s)
         (λ q t.
         own-shows inv s p q (t .part) (λ c. t .own) (λ i h. inv .parts s .holdings i (subst (λ (f : ℕ → Bool). f i ≡ true) (t .holdings) h) .2))
@@ -300,7 +300,7 @@ module _ (o : Opening) where
     lose-verdict : Inv o st → (s : ℕ) → Judged st x (lose s)
     unfolding number effect happens
     lose-verdict inv s =
-        owned (ltb s (o .count)) (st .station s .lost) (x .process s .crashed) 0 s (some (crashing (x .process s))) (Part-shows st (losing (st .station s)))
+        owned (ltb s (o .count)) (st .station s .lost) (x .process s .crashed) _ _ 0 s (some (crashing (x .process s))) (Part-shows st (losing (st .station s)))
         (λ y. Shows o (set-station st s (losing (st .station s))) y) (shows .crashed s)
         (λ q t. own-shows inv s (losing (st .station s)) q t (λ c. refl) (λ i h. inv .parts s .holdings i h .2))
         (both refl (crashing (x .process s)) refl (record {

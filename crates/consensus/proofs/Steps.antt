@@ -284,7 +284,7 @@ module _ (o : Opening) (st : State) (s : ℕ) (inv : Inv o st) (below : s < o .c
   from-finish-awaiting : (j k d : ℕ) → Part (finish-awaiting j k d) → stage-number o st s (finish-awaiting j k d) ≡ 0
       → Kept o st (set-station st s (step-from o st s (finish-awaiting j k d) (st .station s)))
   unfolding step-from stage-number
-  from-finish-awaiting j k d x e = restaged (finish-awaiting j k d) _ x (go _ (some-answer _ (not-false→true _ (refused-not _ 8 _ refl e .0))))
+  from-finish-awaiting j k d x e = restaged (finish-awaiting j k d) _ x (go _ (some-answer _ (not-false→true _ (refused-not _ _ _ refl e .0))))
     where
       go : (a : Bool) → st .answer-of (finish-ballot k) ≡ some a → Restaged o st s (finish-awaiting j k d) (finished a j k d)
       go true f = finish-decides j k d (x .stage .0) (x .stage .1) f

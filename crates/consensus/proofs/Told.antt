@@ -149,11 +149,11 @@ waited-answered o st s idle b w n = absurd (Option·none-ne-some b w)
 waited-answered o st s waiting b w n = absurd (Option·none-ne-some b w)
 waited-answered o st s (voting j k d) b w n = absurd (Option·none-ne-some b w)
 waited-answered o st s (awaiting j k d) b w n =
-    subst (λ (x : ℕ). answered (st .answer-of x) ≡ true) (Option·some-injective _ b w) (not-false→true _ (refused-not _ 8 _ refl n .0))
+    subst (λ (x : ℕ). answered (st .answer-of x) ≡ true) (Option·some-injective _ b w) (not-false→true _ (refused-not _ _ _ refl n .0))
 waited-answered o st s (seeking j k d) b w n = absurd (Option·none-ne-some b w)
 waited-answered o st s (finish-voting j k d) b w n = absurd (Option·none-ne-some b w)
 waited-answered o st s (finish-awaiting j k d) b w n =
-    subst (λ (x : ℕ). answered (st .answer-of x) ≡ true) (Option·some-injective _ b w) (not-false→true _ (refused-not _ 8 _ refl n .0))
+    subst (λ (x : ℕ). answered (st .answer-of x) ≡ true) (Option·some-injective _ b w) (not-false→true _ (refused-not _ _ _ refl n .0))
 waited-answered o st s (decided v k) b w n = absurd (Option·none-ne-some b w)
 
 -- the ballots 0, 1, .., m - 1 with their answers

@@ -9,7 +9,7 @@ use Rattle.consensus.specs.Events.{Event, claim, deliver, step, answer, History
 use Rattle.settlement.specs.declared.record.Standing.{Standing}
 use Rattle.settlement.specs.Events.{opened, played}
 use Rattle.settlement.specs.Look.{looked}
-use Rattle.settlement.specs.Link.{record-after}
+use Rattle.settlement.specs.Link.{record-after, all-accepted}
 use Rattle.settlement.specs.declared.record.Event.the-variants.{Claim, Deliver, Step, Answer}
 use Rattle.log.specs.declared.field.Field.{Field}
 use Rattle.log.specs.declared.field.Field.the-variants.{Opening as Opens, Event as Is}
@@ -27,11 +27,6 @@ pub data Case : Type 0 where
   run-gives : (log : List ℕ) → (limit status : ℕ) → Case
   prints : (log : List ℕ) → String → Case
 
--- every event of the list is accepted in its turn
-abbrev pub all-accepted : Opening → History → Bool
-all-accepted o start = true
-all-accepted o (h ▷ e) = all-accepted o h && eqb (played (record-after o h) e .number) 0
-
 abbrev pub shows : Standing → Bool → ℕ → ℕ → Bool
 shows x decided claimed votes = eqb (x .number) 0 && Bool·beq (x .decided) decided && eqb (x .claim) claimed && eqb (x .votes) votes
 
@@ -48,10 +43,6 @@ right (event-gives o h e k) = all-accepted o h && eqb (played (record-after o h)
 right (look-shows o h s d v k) = all-accepted o h && shows (looked (record-after o h) s) d v k
 right (run-gives log limit k) = eqb (ran log limit .status) k
 right (prints log text) = same (report log) (bytes-of text)
-
-abbrev pub all-right : List Case → Bool
-all-right [] = true
-all-right (c ∷ cs) = right c && all-right cs
 
 abbrev stations : ℕ → Rule → Opening
 stations n r = record { count = n; rule = r }

@@ -1,7 +1,7 @@
 -- The edges of the record test and of made-up records as one list (document 01, "Every event and LOOK first test the
 -- record"): a row is a record, an operation and what it answers. Assumes nothing.
 use Prim.Native.Nat.{ℕ}
-use mathlib.Core.Bool.{Bool, true, false, _&&_}
+use mathlib.Core.Bool.{Bool, true, false}
 use mathlib.Core.List.{List, [], _∷_}
 use lib.Dec.{eqb}
 use Rattle.consensus.specs.Events.{Event, step, lose, answer}
@@ -24,10 +24,6 @@ abbrev pub right : Row → Bool
 right (event-gives r e k) = eqb (number r e) k
 right (look-gives r s k) = eqb (looked r s .number) k
 right (votes-after r e s k) = eqb (looked (played r e .settlement) s .votes) k
-
-abbrev pub all-right : List Row → Bool
-all-right [] = true
-all-right (x ∷ xs) = right x && all-right xs
 
 -- an entry at a stage, with cursor and round; it holds the claims of the stations in the mask `held`
 abbrev entry-at : Stage → (held cursor round : ℕ) → Station

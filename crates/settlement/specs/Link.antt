@@ -2,8 +2,9 @@
 -- Assumes nothing.
 use Prim.Native.Nat.{ℕ, _<_}
 use mathlib.Core.Path.{_≡_}
-use mathlib.Core.Bool.{Bool, cond}
+use mathlib.Core.Bool.{Bool, true, cond, _&&_}
 use mathlib.Core.Option.{Option, none, some}
+use lib.Dec.{eqb}
 use Rattle.bits.specs.Words.{member}
 use Rattle.consensus.specs.Events.{History, start, _▷_, Rule, byStation, byClaim, Opening}
 use Rattle.consensus.specs.State as play
@@ -25,6 +26,11 @@ rule-number byClaim = 2
 unfoldable pub record-after : Opening → History → Settlement
 record-after o start = opened (o .count) (rule-number (o .rule)) .settlement
 record-after o (h ▷ e) = played (record-after o h) e .settlement
+
+-- each event of the list is accepted where it stands
+abbrev pub all-accepted : Opening → History → Bool
+all-accepted o start = true
+all-accepted o (h ▷ e) = all-accepted o h && eqb (played (record-after o h) e .number) 0
 
 -- the play's stage that an entry stands for: past waiting with cursor, round and word, decided with claim and round
 abbrev pub stage-of : Stage → (j k d v : ℕ) → play.Stage

@@ -114,40 +114,40 @@ module _ (o : Opening) (a : Openable o) (r : Settlement) (st : play.State) (l : 
   stage-same s t own Awaiting x = ap (λ (b : Bool). refuse b 8 0) (round-answered (t .round))
   stage-same s t own Seeking x = refl
   stage-same s t own FinishVoting x = refl
-  stage-same s t own FinishAwaiting x = refuse-both _ _ 8 _ _ (finish-answered (t .round)) (λ e. last-same (x .0) (t .round) e)
+  stage-same s t own FinishAwaiting x = refuse-both _ _ _ _ _ (finish-answered (t .round)) (λ e. last-same (x .0) (t .round) e)
   stage-same s t own Decided x = refl
 
   event-same : (e : Event) → first-met (event-tests r e) ≡ rules.number o st e
   unfolding first-met rules.number
   event-same (claim s v) =
-      refuse-both _ _ 1 _ _ (no-station-same s)
+      refuse-both _ _ _ _ _ (no-station-same s)
       (λ e.
       let b = station-below o s e in
-      refuse-both _ _ 2 _ _ (l .entries s b .lost) (λ f. refuse-both _ _ 3 0 0 (idle-same s b) (λ g. refl)))
+      refuse-both _ _ _ _ _ (l .entries s b .lost) (λ f. refuse-both _ _ _ 0 0 (idle-same s b) (λ g. refl)))
   event-same (deliver t s) =
-      refuse-both _ _ 1 _ _ (ap₂ (λ (x y : Bool). x || y) (no-station-same t) (no-station-same s))
+      refuse-both _ _ _ _ _ (ap₂ (λ (x y : Bool). x || y) (no-station-same t) (no-station-same s))
       (λ e.
       let both = or-false (rules.no-station o t) (rules.no-station o s) e in
       let c = station-below o t (both .0) in
       let b = station-below o s (both .1) in
-      refuse-both _ _ 2 _ _ (l .entries s b .lost)
-      (λ f. refuse-both _ _ 4 _ _ (ap not (idle-same t c)) (λ g. refuse-both _ _ 5 0 0 (l .entries s b .holds t) (λ h. refl))))
+      refuse-both _ _ _ _ _ (l .entries s b .lost)
+      (λ f. refuse-both _ _ _ _ _ (ap not (idle-same t c)) (λ g. refuse-both _ _ _ 0 0 (l .entries s b .holds t) (λ h. refl))))
   event-same (step s) =
-      refuse-both _ _ 1 _ _ (no-station-same s)
+      refuse-both _ _ _ _ _ (no-station-same s)
       (λ e.
       let b = station-below o s e in
       let x = l .entries s b in
-      refuse-both _ _ 2 _ _ (x .lost)
+      refuse-both _ _ _ _ _ (x .lost)
       (λ f.
       stage-same s (entry r s) (x .holds s) (entry r s .stage)
       (subst (λ (g : play.Stage). Stage-ok o st g (st .station s .holds) (st .station s .cast)) (sym (x .stage)) (inv .parts s .stage))
       ∙ ap (rules.stage-number o st s) (x .stage)))
-  event-same (lose s) = refuse-both _ _ 1 _ _ (no-station-same s) (λ e. refuse-both _ _ 2 0 0 (l .entries s (station-below o s e) .lost) (λ f. refl))
+  event-same (lose s) = refuse-both _ _ _ _ _ (no-station-same s) (λ e. refuse-both _ _ _ 0 0 (l .entries s (station-below o s e) .lost) (λ f. refl))
   event-same (answer b v) =
-      refuse-both _ _ 9 _ _ (ap (λ (n : ℕ). not (ltb b n)) ballots-count)
+      refuse-both _ _ _ _ _ (ap (λ (n : ℕ). not (ltb b n)) ballots-count)
       (λ e.
-      refuse-both (ltb 1 v) (ltb 1 v) 10 _ _ refl
-      (λ f. refuse-both _ _ 11 _ _ (ballot-answered b) (λ g. refuse-both _ _ 12 0 0 (ap not (l .cast b (as-bit v))) (λ h. refl))))
+      refuse-both (ltb 1 v) (ltb 1 v) _ _ _ refl
+      (λ f. refuse-both _ _ _ _ _ (ballot-answered b) (λ g. refuse-both _ _ _ 0 0 (ap not (l .cast b (as-bit v))) (λ h. refl))))
 
   pub number-same : Short o st → (e : Event) → number r e ≡ rules.number o st e
   unfolding number first-met
