@@ -17,6 +17,10 @@ use Rattle.settlement.specs.Events.{blank, opened, played}
 use Rattle.settlement.specs.Look.{turned-away, looked}
 use Rattle.settlement.specs.Link.{rule-number, record-after, Shows-play}
 
+-- the record shows where the figure stands: it shows a state of the play, which the figure shows
+abbrev pub Shows-figure : (o : Opening) → Settlement → Figure-state o → Type 0
+Shows-figure o r x = (st : State) × Shows-play o r st × Shows o st x
+
 module _ (o : Opening) (h : History) where
   -- "each event's number, and LOOK's whole answer for each station after every beginning of the list, are those of this play"
   pub record Answers-told : Type 0 where
@@ -34,18 +38,14 @@ module _ (o : Opening) (h : History) where
     pub no-fault : fault (record-after o h) ≡ false
     pub no-42 : (e : Event) → played (record-after o h) e .number ≡ 42 → ⊥
 
-  -- the record shows where the figure stands: it shows a state of the play, which the figure shows
-  abbrev pub Shows-figure : Settlement → Figure-state o → Type 0
-  Shows-figure r x = (st : State) × Shows-play o r st × Shows o st x
-
   -- Demand 2: "each accepted event does one step of Zhang and Chen's figure 1 or figure 2, and each step those figures allow in that state is
   -- accepted"
   pub record Demand2-of-records : Type 0 where
-    pub shown : Shows-figure (record-after o h) (figure-after o h)
+    pub shown : Shows-figure o (record-after o h) (figure-after o h)
     pub accepted : (e : Event) → Fitting e → played (record-after o h) e .number ≡ 0
-        → (y : Figure-state o) × Step o (figure-after o h) e y × Shows-figure (played (record-after o h) e .settlement) y
+        → (y : Figure-state o) × Step o (figure-after o h) e y × Shows-figure o (played (record-after o h) e .settlement) y
     pub allowed : (e : Event) → Fitting e → (y : Figure-state o) → Step o (figure-after o h) e y
-        → (played (record-after o h) e .number ≡ 0) × Shows-figure (played (record-after o h) e .settlement) y
+        → (played (record-after o h) e .number ≡ 0) × Shows-figure o (played (record-after o h) e .settlement) y
 
   -- Demand 3: the words are the play's, and the operations' numbers and answers are the play's too.
   pub record Demand3-of-records : Type 0 where
