@@ -1,4 +1,5 @@
--- Demand 3 about the play: its clauses put together, and that the supplied steps a station has taken are counted. Assumes nothing.
+-- Demand 3 about the play: each clause follows from the file that is about it. The supplied steps can be counted, since a finite list tells of each
+-- whether it was supplied. Assumes nothing.
 use Prim.Native.Nat.{ℕ, suc}
 use mathlib.Core.Path.{_≡_, refl, sym, subst}
 use mathlib.Core.Logic.{inl, inr}

@@ -1,4 +1,5 @@
--- Each accepted STEP keeps the invariant: a case for each stage. Assumes nothing.
+-- Each accepted STEP keeps the invariant: a vote is cast for a claim that is held and fits the answers so far, an answer was cast for such a claim,
+-- and a seek ends only at one. A case for each stage. Assumes nothing.
 use Prim.Native.Nat.{ℕ, zero, suc, _+_, _*_, _%_, _^_, _<_, _≤_, zero-le}
 use mathlib.Core.Path.{_≡_, refl, sym, subst, _∙_, ap}
 use mathlib.Core.Logic.{_⊎_, inl, inr}

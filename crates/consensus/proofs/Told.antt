@@ -1,5 +1,5 @@
 -- What the list tells of a station is what its stage says: the ballot it waits on, the ballots it voted in (0, 1, 2, .. in this order),
--- the answers it took, and whether it has decided. Assumes nothing.
+-- the answers it took, and whether it has decided. An accepted STEP moves both alike, and nothing else moves either. Assumes nothing.
 use Prim.Native.Nat.{ℕ, zero, suc, _+_, _%_, _<_}
 use mathlib.Core.Path.{_≡_, refl, sym, subst, _∙_, ap, ap₂, fun-ext}
 use mathlib.Core.Logic.{_⊎_, inl, inr, ⊎-elim}

@@ -1,4 +1,4 @@
--- A field that PUT writes has few bytes. Assumes nothing.
+-- A field that PUT writes has few bytes: its body has the table's length, at most 5, or is a note of at most 64. Assumes nothing.
 use Prim.Native.Nat.{ℕ, _≤_}
 use mathlib.Core.Path.{_≡_, refl}
 use mathlib.Core.Bool.{Bool, true, false, cond}

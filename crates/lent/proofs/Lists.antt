@@ -1,4 +1,5 @@
--- Lists of events on one lent settlement. Assumes nothing.
+-- Lists of events on one lent settlement: each entry's contract gives the outcome of the event's meaning, so by recursion on the list what is left is
+-- `record-after`, of which the demands are proved. Assumes nothing.
 use Prim.Native.Nat.{ℕ}
 use mathlib.Core.Path.{_≡_, refl, sym, _∙_, ap}
 use Rattle.consensus.specs.Events.{Event, History, start, _▷_, Opening, Openable}

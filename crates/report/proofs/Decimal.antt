@@ -1,4 +1,4 @@
--- The digits of a number, and how many it has. Assumes nothing.
+-- The digits of a number, and how many it has: x / 10 has all its digits but the last, which is x % 10. Assumes nothing.
 use Prim.Native.Nat.{ℕ, zero, suc, _+_, _-_, _*_, _/_, _%_, _^_, _≤_, _<_}
 use mathlib.Core.Path.{_≡_, refl, ap}
 use mathlib.Core.Bool.{Bool, true, false, cond}

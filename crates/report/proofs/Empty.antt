@@ -1,4 +1,4 @@
--- A text is never empty. Assumes nothing.
+-- A text is never empty: it begins with a word. Assumes nothing.
 use Prim.Native.Nat.{ℕ, _<_}
 use mathlib.Core.Bool.{Bool, true, false, cond}
 use mathlib.Core.List.{List}

@@ -1,4 +1,4 @@
--- Bytes after bytes in a lent buffer. Assumes nothing.
+-- Bytes after bytes in a lent buffer: what is written where another piece ended makes one longer piece with it. Assumes nothing.
 use Prim.Native.Nat.{ℕ, suc, _+_, _≤_, _<_}
 use mathlib.Core.Path.{_≡_, refl, sym, ap, _∙_}
 use mathlib.Core.List.{List, [], _∷_, _++_}

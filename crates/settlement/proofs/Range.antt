@@ -1,4 +1,5 @@
--- What a record that passes the record test says of numbers in it, and so what a STEP that is not refused relies on. Assumes nothing.
+-- What a record that passes the record test says of numbers in it, and so what a STEP that is not refused relies on: each bound is a clause of the
+-- test that is not met. Assumes nothing.
 use Prim.Native.Nat.{ℕ, _≤_, _<_}
 use native.Mathlib.Nat.{lt-of-lt-of-le}
 use native.Mathlib.Omega.{arith}

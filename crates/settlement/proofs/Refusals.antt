@@ -1,4 +1,4 @@
--- Refusals: what the number of an outcome says of its settlement. Assumes nothing.
+-- What the number of an outcome says of its settlement: `outcome` chooses by whether it is 0. Assumes nothing.
 use Prim.Native.Nat.{ℕ}
 use mathlib.Core.Path.{_≡_}
 use borrow.Author.Tests.{ne-eqb, eq-eqb}

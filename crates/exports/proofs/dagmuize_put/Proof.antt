@@ -1,4 +1,4 @@
--- `exports::dagmuize_put`: the tag's row, then PUT. Assumes nothing.
+-- `exports::dagmuize_put`: the tag's row gives the field and PUT's promise the rest; a field has few bytes, so the count stays below 65,536. Assumes nothing.
 use native.Mathlib.Omega.{arith}
 use denote.Ref.{now}
 use Rattle.exports.specs.Exports.{put-answer, put-after}

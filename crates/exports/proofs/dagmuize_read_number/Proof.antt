@@ -1,4 +1,4 @@
--- `exports::dagmuize_read_number`: found or refused. Assumes nothing.
+-- `exports::dagmuize_read_number`: READ's answer has two cases, and each gives what the definition gives for it. Assumes nothing.
 use borrow.Author.Needs.{needs}
 use Rattle.exports.proofs.dagmuize_read_number.Statement.{statement}
 use Rattle.exports.proofs.dagmuize_read_number.Tie as tie

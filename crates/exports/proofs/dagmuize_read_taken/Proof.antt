@@ -1,4 +1,4 @@
--- `exports::dagmuize_read_taken`: found or refused. Assumes nothing.
+-- `exports::dagmuize_read_taken`: READ's answer has two cases, and each gives what the definition gives for it. Assumes nothing.
 use borrow.Author.Needs.{needs}
 use Rattle.exports.proofs.dagmuize_read_taken.Statement.{statement}
 use Rattle.exports.proofs.dagmuize_read_taken.Tie as tie

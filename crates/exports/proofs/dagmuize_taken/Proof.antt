@@ -1,4 +1,4 @@
--- `exports::dagmuize_taken`: a part of what RUN answers. Assumes nothing.
+-- `exports::dagmuize_taken`: RUN's promise gives the whole replay, and this is a field of it. Assumes nothing.
 use borrow.Author.Needs.{needs}
 use Rattle.exports.proofs.dagmuize_taken.Statement.{statement}
 use Rattle.exports.proofs.dagmuize_taken.Tie as tie

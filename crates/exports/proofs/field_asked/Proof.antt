@@ -1,4 +1,4 @@
--- `exports::field_asked`: kind by kind. Assumes nothing.
+-- `exports::field_asked`: for each kind the arm is the definition's clause for it. Assumes nothing.
 use Rattle.exports.specs.Exports.{asked}
 use borrow.Author.Needs.{needs}
 use Rattle.exports.proofs.field_asked.Statement.{statement}

@@ -1,4 +1,4 @@
--- `lent::through::play_through`: event by event. Assumes nothing.
+-- `lent::through::play_through`: for each event the arm is the definition's clause for it. Assumes nothing.
 use borrow.Author.Needs.{needs}
 use Rattle.lent.proofs.through.play_through.Statement.{statement}
 use Rattle.lent.proofs.through.play_through.Tie as tie

@@ -1,4 +1,4 @@
--- `report::line::put_decision`: decided or not. Assumes nothing.
+-- `report::line::put_decision`: each branch writes what the definition shows for it. Assumes nothing.
 use native.Mathlib.Omega.{arith}
 use Rattle.report.specs.Text.{decision-shown}
 use Rattle.report.proofs.Written.{at-most}

@@ -1,4 +1,4 @@
--- `report::line::put_named`: the name, then the number. Assumes nothing.
+-- `report::line::put_named`: the number is written where the name ends. Assumes nothing.
 use Rattle.report.proofs.Written.{and-then}
 use borrow.Author.Needs.{needs}
 use Rattle.report.proofs.line.put_named.Statement.{statement}

@@ -1,4 +1,4 @@
--- `report::line::put_presence`: lost or not. Assumes nothing.
+-- `report::line::put_presence`: each branch writes what the definition shows for it. Assumes nothing.
 use Rattle.report.specs.Text.{presence}
 use borrow.Author.Needs.{needs}
 use Rattle.report.proofs.line.put_presence.Statement.{statement}

@@ -1,4 +1,4 @@
--- `report::line::put_run`: number by number. Assumes nothing.
+-- `report::line::put_run`: each number is written after its name where the last one ended, so the bytes are the line's. Assumes nothing.
 use lib.Dec.{lit≤}
 use Rattle.report.specs.Text.{run-part}
 use Rattle.report.proofs.Written.{and-then, at-most}

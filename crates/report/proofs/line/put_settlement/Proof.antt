@@ -1,4 +1,4 @@
--- `report::line::put_settlement`: number by number. Assumes nothing.
+-- `report::line::put_settlement`: each number is written after its name where the last one ended, so the bytes are the line's. Assumes nothing.
 use lib.Dec.{lit≤}
 use Rattle.report.specs.Text.{settlement-part}
 use Rattle.report.proofs.Written.{and-then, at-most}

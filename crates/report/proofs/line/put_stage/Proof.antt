@@ -1,4 +1,4 @@
--- `report::line::put_stage`: stage by stage. Assumes nothing.
+-- `report::line::put_stage`: at each stage the arm is the definition's clause for it. Assumes nothing.
 use native.Mathlib.Omega.{arith}
 use Rattle.report.specs.Text.{stage-word}
 use Rattle.report.proofs.Written.{at-most}

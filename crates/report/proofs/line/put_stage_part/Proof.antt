@@ -1,4 +1,4 @@
--- `report::line::put_stage_part`: number and stage. Assumes nothing.
+-- `report::line::put_stage_part`: each piece is written where the last one ended, in the line's order. Assumes nothing.
 use lib.Dec.{lit≤}
 use Rattle.report.specs.Text.{stage-part}
 use Rattle.report.proofs.Written.{and-then, at-most}

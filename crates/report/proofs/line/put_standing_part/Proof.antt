@@ -1,4 +1,4 @@
--- `report::line::put_standing_part`: decision, votes, live or lost. Assumes nothing.
+-- `report::line::put_standing_part`: each piece is written where the last one ended, in the line's order. Assumes nothing.
 use lib.Dec.{lit≤}
 use Rattle.report.specs.Text.{standing-part}
 use Rattle.report.proofs.Written.{and-then, at-most}

@@ -1,4 +1,4 @@
--- `report::line::put_station_line`: its two parts. Assumes nothing.
+-- `report::line::put_station_line`: the second part is written where the first ends, so together they are the line. Assumes nothing.
 use Rattle.report.specs.Text.{station-line}
 use Rattle.report.proofs.Written.{and-then}
 use borrow.Author.Needs.{needs}

@@ -1,4 +1,4 @@
--- `report::report::report`: too long, or RUN and its text. Assumes nothing.
+-- `report::report::report`: the test of the length is the definition's, and each branch is promised that case's text. Assumes nothing.
 use borrow.Author.Tests.{lt-ltb, le-ltb}
 use Rattle.report.specs.Report.{report}
 use borrow.Author.Needs.{needs}

@@ -1,4 +1,4 @@
--- `report::text::put_text`: line one, then the stations. Assumes nothing.
+-- `report::text::put_text`: the stations' lines are written where line one ends, so together they are the text. Assumes nothing.
 use Rattle.report.specs.Text.{text}
 use Rattle.report.proofs.Written.{and-then}
 use borrow.Author.Needs.{needs}

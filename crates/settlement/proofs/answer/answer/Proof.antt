@@ -1,4 +1,4 @@
--- `settlement::answer::answer`: its parts are those of the definition. Assumes nothing.
+-- `settlement::answer::answer`: each call gives a part of the definition, and together they are the whole. Assumes nothing.
 use borrow.Author.Needs.{needs}
 use Rattle.settlement.specs.Tests.{first-met, number}
 use Rattle.settlement.specs.Events.{effect, played}

@@ -1,4 +1,4 @@
--- `settlement::answer::answer_number`: the tests, in the order of the definition. Assumes nothing.
+-- `settlement::answer::answer_number`: each `refuse` is one test of the list, and they nest in the list's order. Assumes nothing.
 use borrow.Author.Needs.{needs}
 use Rattle.settlement.specs.Tests.{first-met}
 use Rattle.settlement.proofs.answer.answer_number.Statement.{statement}

@@ -1,4 +1,4 @@
--- `settlement::deliver::deliver`: its parts are those of the definition. Assumes nothing.
+-- `settlement::deliver::deliver`: each call gives a part of the definition, and together they are the whole. Assumes nothing.
 use borrow.Author.Needs.{needs}
 use Rattle.settlement.specs.Tests.{first-met, number}
 use Rattle.settlement.specs.Events.{effect, played}

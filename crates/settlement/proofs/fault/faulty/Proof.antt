@@ -1,4 +1,4 @@
--- `settlement::fault::faulty`: the clauses, in the order of the definition. Assumes nothing.
+-- `settlement::fault::faulty`: each operand is a clause of the definition, in its order. Assumes nothing.
 use borrow.Author.Needs.{needs}
 use Rattle.settlement.specs.Fault.{fault}
 use Rattle.settlement.proofs.fault.faulty.Statement.{statement}

@@ -1,4 +1,4 @@
--- `settlement::fault::past_waiting`: its parts are those of the definition. Assumes nothing.
+-- `settlement::fault::past_waiting`: each call gives a part of the definition, and together they are the whole. Assumes nothing.
 use borrow.Author.Needs.{needs}
 use Rattle.settlement.proofs.fault.past_waiting.Statement.{statement}
 use Rattle.settlement.proofs.fault.past_waiting.Tie as tie

@@ -1,4 +1,4 @@
--- `settlement::fault::station_faulty`: the clauses, in the order of the definition. Assumes nothing.
+-- `settlement::fault::station_faulty`: each operand is a clause of the definition, in its order. Assumes nothing.
 use borrow.Author.Needs.{needs}
 use Rattle.settlement.specs.Fault.{station-fault}
 use Rattle.settlement.proofs.fault.station_faulty.Statement.{statement}

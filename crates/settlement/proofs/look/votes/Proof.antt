@@ -1,4 +1,4 @@
--- `settlement::look::votes`: stage by stage. Assumes nothing.
+-- `settlement::look::votes`: at each stage the arm is the definition's clause for it. Assumes nothing.
 use borrow.Author.Needs.{needs}
 use Rattle.settlement.specs.Look.{votes}
 use Rattle.settlement.proofs.look.votes.Statement.{statement}

@@ -1,4 +1,4 @@
--- `settlement::open::open`: its parts are those of the definition. Assumes nothing.
+-- `settlement::open::open`: each call gives a part of the definition, and together they are the whole. Assumes nothing.
 use borrow.Author.Needs.{needs}
 use Rattle.settlement.specs.Events.{opened}
 use Rattle.settlement.proofs.open.open.Statement.{statement}

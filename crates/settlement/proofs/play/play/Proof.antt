@@ -1,4 +1,4 @@
--- `settlement::play::play`: event by event. Assumes nothing.
+-- `settlement::play::play`: for each event the arm is the definition's clause for it. Assumes nothing.
 use borrow.Author.Needs.{needs}
 use Rattle.settlement.proofs.play.play.Statement.{statement}
 use Rattle.settlement.proofs.play.play.Tie as tie

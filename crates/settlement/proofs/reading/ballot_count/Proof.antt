@@ -1,4 +1,4 @@
--- `settlement::reading::ballot_count`: the choice goes by the two tests. Assumes nothing.
+-- `settlement::reading::ballot_count`: each branch is the definition's, which chooses by the same two tests. Assumes nothing.
 use borrow.Author.Needs.{needs}
 use Rattle.settlement.proofs.reading.ballot_count.Statement.{statement}
 use Rattle.settlement.proofs.reading.ballot_count.Tie as tie

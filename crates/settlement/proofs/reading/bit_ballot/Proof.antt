@@ -1,4 +1,4 @@
--- `settlement::reading::bit_ballot`: the choice goes by the rule. Assumes nothing.
+-- `settlement::reading::bit_ballot`: each branch is the definition's, which chooses by the rule too. Assumes nothing.
 use borrow.Author.Needs.{needs}
 use Rattle.settlement.proofs.reading.bit_ballot.Statement.{statement}
 use Rattle.settlement.proofs.reading.bit_ballot.Tie as tie

@@ -1,4 +1,4 @@
--- `settlement::reading::spelled`: the choice goes by the rule. Assumes nothing.
+-- `settlement::reading::spelled`: each branch is the definition's, which chooses by the rule too. Assumes nothing.
 use borrow.Author.Needs.{needs}
 use Rattle.settlement.proofs.reading.spelled.Statement.{statement}
 use Rattle.settlement.proofs.reading.spelled.Tie as tie

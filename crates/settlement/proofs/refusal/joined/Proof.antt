@@ -1,4 +1,4 @@
--- `settlement::refusal::joined`: the choice goes by the number. Assumes nothing.
+-- `settlement::refusal::joined`: each branch is the definition's, which chooses by the number too. Assumes nothing.
 use Rattle.settlement.specs.Events.{outcome}
 use Rattle.settlement.proofs.refusal.joined.Statement.{statement}
 use Rattle.settlement.proofs.refusal.joined.Tie as tie

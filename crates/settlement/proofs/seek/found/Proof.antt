@@ -1,4 +1,4 @@
--- `settlement::seek::found`: the choice goes by the rule and the last round. Assumes nothing.
+-- `settlement::seek::found`: each branch is the definition's, which chooses by the rule and the last round too. Assumes nothing.
 use borrow.Author.Needs.{needs}
 use Rattle.settlement.specs.Step.{found}
 use Rattle.settlement.proofs.seek.found.Statement.{statement}

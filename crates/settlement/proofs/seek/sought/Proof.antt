@@ -1,4 +1,4 @@
--- `settlement::seek::sought`: the choice goes by the test. Assumes nothing.
+-- `settlement::seek::sought`: each branch is the definition's, which chooses by the same test. Assumes nothing.
 use borrow.Author.Needs.{needs}
 use Rattle.settlement.specs.Step.{sought}
 use Rattle.settlement.proofs.seek.sought.Statement.{statement}

@@ -1,4 +1,4 @@
--- `settlement::stage::finish_taken`: the choice goes by the answer. Assumes nothing.
+-- `settlement::stage::finish_taken`: each branch is the definition's, which chooses by the answer too. Assumes nothing.
 use borrow.Author.Needs.{needs}
 use Rattle.settlement.specs.Step.{finish-taken}
 use Rattle.settlement.proofs.stage.finish_taken.Statement.{statement}

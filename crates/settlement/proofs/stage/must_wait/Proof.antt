@@ -1,4 +1,4 @@
--- `settlement::stage::must_wait`: stage by stage. Assumes nothing.
+-- `settlement::stage::must_wait`: at each stage the arm is the definition's clause for it. Assumes nothing.
 use borrow.Author.Needs.{needs}
 use Rattle.settlement.specs.Tests.{must-wait}
 use Rattle.settlement.proofs.stage.must_wait.Statement.{statement}

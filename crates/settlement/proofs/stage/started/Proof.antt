@@ -1,4 +1,4 @@
--- `settlement::stage::started`: the choice goes by the rule and the number of stations. Assumes nothing.
+-- `settlement::stage::started`: each branch is the definition's, which chooses by the rule and the number of stations too. Assumes nothing.
 use borrow.Author.Needs.{needs}
 use Rattle.settlement.specs.Step.{started}
 use Rattle.settlement.proofs.stage.started.Statement.{statement}

@@ -1,4 +1,4 @@
--- `settlement::stage::takes_last_no`: stage by stage. Assumes nothing.
+-- `settlement::stage::takes_last_no`: at each stage the arm is the definition's clause for it. Assumes nothing.
 use borrow.Author.Needs.{needs}
 use Rattle.settlement.specs.Tests.{takes-last-no}
 use Rattle.settlement.proofs.stage.takes_last_no.Statement.{statement}

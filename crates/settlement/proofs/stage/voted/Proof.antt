@@ -1,4 +1,4 @@
--- `settlement::stage::voted`: its parts are those of the definition. Assumes nothing.
+-- `settlement::stage::voted`: each call gives a part of the definition, and together they are the whole. Assumes nothing.
 use borrow.Author.Needs.{needs}
 use Rattle.settlement.specs.Step.{voted}
 use Rattle.settlement.proofs.stage.voted.Statement.{statement}

@@ -1,4 +1,4 @@
--- `settlement::step::finish_voted`: its parts are those of the definition. Assumes nothing.
+-- `settlement::step::finish_voted`: each call gives a part of the definition, and together they are the whole. Assumes nothing.
 use borrow.Author.Needs.{needs}
 use Rattle.settlement.specs.Step.{stepped}
 use Rattle.settlement.proofs.step.finish_voted.Statement.{statement}

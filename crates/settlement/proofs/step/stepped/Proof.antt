@@ -1,4 +1,4 @@
--- `settlement::step::stepped`: stage by stage. Assumes nothing.
+-- `settlement::step::stepped`: at each stage the arm is the definition's clause for it. Assumes nothing.
 use borrow.Author.Needs.{needs}
 use Rattle.settlement.specs.Step.{stepped}
 use Rattle.settlement.proofs.step.stepped.Statement.{statement}
