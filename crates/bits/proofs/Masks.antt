@@ -1,11 +1,11 @@
 -- A mask is a set of stations: inserting s makes s a member and leaves every other station as it was. It is a word with one bit set.
 -- The laws of a count of members belong here too. Assumes nothing.
-use Prim.Native.Nat.{ℕ, _^_, _<_}
+use Prim.Native.Nat.{ℕ, _<_}
 use mathlib.Core.Path.{_≡_}
 use mathlib.Core.Bool.{true, false}
 use Rattle.bits.specs.Words.{maskBits, member, insert}
 use Rattle.bits.proofs.Digits.{bit-zero}
-use Rattle.bits.proofs.Words.{word-lt, word-same, word-other}
+use Rattle.bits.proofs.Words.{word-same, word-other}
 
 pub member-none : (s : ℕ) → member s 0 ≡ false
 unfolding member
@@ -18,7 +18,3 @@ member-same s mask h = word-same maskBits s true mask h
 pub member-other : (s t mask : ℕ) → (s ≡ t → ⊥) → member s (insert t mask) ≡ member s mask
 unfolding member insert
 member-other s t mask d = word-other maskBits t s true mask d
-
-pub insert-lt : (s mask : ℕ) → mask < 2 ^ maskBits → insert s mask < 2 ^ maskBits
-unfolding insert
-insert-lt s mask h = word-lt maskBits s true mask h

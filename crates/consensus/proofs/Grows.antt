@@ -20,14 +20,6 @@ pub record Grows (st st' : State) : Type 0 where
 pub grows-refl : (st : State) → Grows st st
 grows-refl st = record { claims = λ s e. (e, refl); helds = λ s t e. e; answers = λ b a e. e; casts = λ s b a e. e }
 
-pub grows-trans : (a b c : State) → Grows a b → Grows b c → Grows a c
-grows-trans a b c g h = record {
-  claims = λ s e. (h .claims s (g .claims s e .0) .0, h .claims s (g .claims s e .0) .1 ∙ g .claims s e .1);
-  helds = λ s t e. h .helds s t (g .helds s t e);
-  answers = λ x y e. h .answers x y (g .answers x y e);
-  casts = λ s x y e. h .casts s x y (g .casts s x y e);
-}
-
 module _ (o : Opening) (st st' : State) (g : Grows st st') where
   spelled-grows-by : (r : Rule) (t : ℕ) → claimed st t ≡ true → spelled-by r st' t ≡ spelled-by r st t
   spelled-grows-by byStation t e = refl

@@ -112,10 +112,6 @@ module _ (o : Opening) (st : State) where
           by-bool (leb k i) (λ p. v .above i (leb-true k i p) ∙ sym (w .above i (leb-true k i p)))
           (λ p. Option·some-injective _ _ (sym (v .answers i (leb-false k i p)) ∙ w .answers i (leb-false k i p)))
 
-  -- what fits the answers and has no bit above is the word
-  pub fits-word : (k t : ℕ) → Fits o st k t → ((i : ℕ) → k ≤ i → bit i (spelled o st t) ≡ false) → Word o st k (spelled o st t)
-  fits-word k t f a = record { answers = f; above = a }
-
 -- two numbers that agree in the low bits and differ: the one has a bit above, if the other has none
 pub higher-bit : (k d v : ℕ) → ((i : ℕ) → i < k → bit i d ≡ bit i v) → ((i : ℕ) → k ≤ i → bit i d ≡ false) → (d ≡ v → ⊥)
     → (i : ℕ) × (k ≤ i) × (bit i v ≡ true)

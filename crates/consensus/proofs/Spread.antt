@@ -12,7 +12,7 @@ use Rattle.consensus.specs.State.{update}
 use Rattle.consensus.specs.Figure.{View, Does, blocked, goes, broadcasts, proposes, Figure, onward, event}
 use Rattle.consensus.specs.System.{Process, System, view, moved, proposing}
 use Rattle.consensus.specs.Runs.{decide, then, provided, broadcast-by, advance-by, with-process, stay, live, happens, happening}
-use Rattle.consensus.proofs.Basics.{by-bool, update-ind, update-same}
+use Rattle.consensus.proofs.Basics.{by-bool, update-same}
 use Rattle.consensus.proofs.Lawful.{seen, Moving, Lawful}
 use Rattle.consensus.proofs.Gather.{Ended, unsaid, Says-alike, says-first, onward-ended, onward-on, fall}
 
@@ -23,9 +23,6 @@ update-twice {A} f i a b = fun-ext (λ j. go j (eqb j i))
     go : (j : ℕ) (t : Bool) → cond t b (cond t a (f j)) ≡ cond t b (f j)
     go j true = refl
     go j false = refl
-
-update-self : {A : Type 0} (f : ℕ → A) (i : ℕ) → update f i (f i) ≡ f
-update-self {A} f i = fun-ext (λ j. update-ind (λ (y : A). y ≡ f j) f i (f i) j (λ e. ap f (sym e)) (λ ne. refl))
 
 module _ (F : Figure) (Ready : (ℕ → Option ℕ) → F .Place → Type 0) (law : Lawful F Ready) (n : ℕ) where
   -- one line of the process i, and m more
