@@ -35,7 +35,7 @@ module _ (o : Opening) (h : History) where
     pub is-answered : (b : ℕ) → Answered o b h ↔ (answered (after o h .answer-of b) ≡ true)
     pub first : (b : ℕ) → first-answer o h b ≡ after o h .answer-of b
     pub waits : (p : ℕ) → waits-on o p h ≡ awaited o (after o h .station p .stage)
-    -- p voted in the ballots where its bit stands, and took the answer of each but the one it waits on
+    -- p voted in the ballots where its bit stands (`answered`: some bit stands there), and took the answer of each but the one it waits on
     pub voted : (p b : ℕ) → Listed b (voted-in o p h) ↔ (answered (after o h .station p .cast b) ≡ true)
     pub took : (p b : ℕ) (a : Bool)
         → Listed (b, a) (answers-taken o p h) ↔ (Listed b (voted-in o p h) × (waits-on o p h ≡ some b → ⊥) × (first-answer o h b ≡ some a))

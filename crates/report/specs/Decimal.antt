@@ -15,7 +15,7 @@ unfoldable pub digits : ℕ → ℕ → List ℕ
 digits zero x = []
 digits (suc most) x = cond (ltb x 10) (digit x ∷ []) (digits most (x / 10) ++ (digit (x % 10) ∷ []))
 
--- a number has fewer digits than x + 1
+-- x has at most x + 1 digits
 unfoldable pub decimal : ℕ → List ℕ
 decimal x = digits (suc x) x
 
