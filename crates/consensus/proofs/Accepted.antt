@@ -11,7 +11,8 @@ use Rattle.consensus.specs.Events.{Event, claim, deliver, step, lose, an
 use Rattle.consensus.specs.State.{Stage, idle, waiting, voting, awaiting, seeking, finish-voting, finish-awaiting, decided, Station, State, fresh, not-idle, claimed, claim-of, held, answered, bit-of}
 use Rattle.consensus.specs.Rules.{number, finish-ballot, spelled, first-stage, found, sought, finished, claiming, holding, losing, step-from, effect, next, after}
 use Rattle.consensus.specs.Terms.{Happened, Put-in, Holds, Lost, Answered}
-use Rattle.consensus.proofs.Basics.{cond-ind, no-clash, update-ind, update-same}
+use Rattle.consensus.proofs.Basics.{update-ind, update-same}
+use Rattle.basics.proofs.Bools.{cond-ind, no-clash}
 use Rattle.consensus.proofs.Reached.{next-ind, claim-accepted}
 use Rattle.consensus.proofs.Station.{next-accepted}
 

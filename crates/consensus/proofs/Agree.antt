@@ -16,7 +16,7 @@ use Rattle.consensus.specs.State.{Stage, idle, waiting, voting, awaiting
 use Rattle.consensus.specs.Rules.{finish-ballot, after}
 use Rattle.consensus.specs.Terms.{decision, voted-in, answers-taken, Decided, Put-in, longest}
 use Rattle.consensus.specs.Demand3.{first-ballots, Ballots-voted, Same}
-use Rattle.consensus.proofs.Basics.{by-bool, no-clash}
+use Rattle.basics.proofs.Bools.{by-bool, no-clash}
 use Rattle.consensus.proofs.Invariant.{Word, Unfinished, Decided-by, Part-ok, votes, votes-by}
 use Rattle.consensus.proofs.Spelling.{word-unique}
 use Rattle.consensus.proofs.Steps.{opening}

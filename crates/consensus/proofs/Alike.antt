@@ -11,7 +11,8 @@ use Rattle.bits.specs.Digits.{bit}
 use Rattle.bits.specs.Words.{withBit}
 use Rattle.consensus.specs.Events.{Opening, ballots}
 use Rattle.consensus.specs.State.{Stage, idle, waiting, voting, awaiting, seeking, finish-voting, finish-awaiting, decided, Station, State, not-idle, claim-of, held, answered, bit-of, with-stage}
-use Rattle.consensus.specs.Rules.{bit-ballot, finish-ballot, spelled, refuse, last-refusal, stage-number, first-stage, sought, finished, casting, step-from}
+use Rattle.consensus.specs.Rules.{bit-ballot, finish-ballot, spelled, last-refusal, stage-number, first-stage, sought, finished, casting, step-from}
+use Rattle.basics.specs.Tests.{refuse}
 use Rattle.consensus.specs.Figure.{View, Does, blocked, goes, broadcasts, proposes, await}
 
 -- the same done at a stage and at the place that stands for it

@@ -16,7 +16,7 @@ use Rattle.bits.proofs.Words.{bits-agree}
 use Rattle.consensus.specs.Events.{Rule, byStation, byClaim, Opening, rounds}
 use Rattle.consensus.specs.State.{Stage, idle, waiting, voting, awaiting, seeking, finish-voting, finish-awaiting, decided, State, claim-of, held}
 use Rattle.consensus.specs.Rules.{spelled, first-stage, found, sought, finished, next}
-use Rattle.consensus.proofs.Basics.{by-bool, cond-ind, no-clash}
+use Rattle.basics.proofs.Bools.{by-bool, cond-ind, no-clash}
 use Rattle.consensus.proofs.Invariant.{Fits, Word, Seeking}
 use Rattle.consensus.proofs.Steps.{opening}
 

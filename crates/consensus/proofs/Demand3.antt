@@ -10,12 +10,14 @@ use Rattle.bits.specs.Words.{withBit, lowAgree}
 use Rattle.bits.specs.Log.{ceilLog2, leastFrom}
 use Rattle.consensus.specs.Events.{Event, History, start, _▷_, Rule, byStation, byClaim, Opening}
 use Rattle.consensus.specs.State.{State, held, answered, update}
-use Rattle.consensus.specs.Rules.{any-below, stage-number, number, step-from, effect, next, after}
+use Rattle.consensus.specs.Rules.{stage-number, number, step-from, effect, next, after}
+use Rattle.basics.specs.Below.{any-below}
 use Rattle.consensus.specs.Terms.{takes, waits-on, Supplied, Takes-supplied, Supplied-steps}
 use Rattle.consensus.specs.Told.{Told}
 use Rattle.consensus.specs.Demand3.{Demand3, No-42}
 use Rattle.consensus.specs.Examples.{opening, lone-by-station, lone-by-claim, beside-a-lost-claim, lacking-a-held-claim, Bounds-met}
-use Rattle.consensus.proofs.Basics.{by-bool, no-clash, any-found, any-none, and-true, not-false→true}
+use Rattle.basics.proofs.Bools.{by-bool, no-clash, and-true, not-false→true}
+use Rattle.basics.proofs.Below.{any-found, any-none}
 use Rattle.consensus.proofs.Reached.{reached}
 use Rattle.consensus.proofs.Listed.{voted-told, took-told}
 use Rattle.consensus.proofs.Accepted.{put-in-shown, holds-shown, lost-shown, answered-shown}

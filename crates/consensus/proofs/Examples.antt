@@ -4,7 +4,8 @@ use Rattle.bits.specs.Digits.{bit, binaryDigits, digitsIn}
 use Rattle.bits.specs.Words.{withBit, lowAgree}
 use Rattle.bits.specs.Log.{ceilLog2, leastFrom}
 use Rattle.consensus.specs.State.{update}
-use Rattle.consensus.specs.Rules.{any-below, stage-number, number, step-from, effect, next, after}
+use Rattle.consensus.specs.Rules.{stage-number, number, step-from, effect, next, after}
+use Rattle.basics.specs.Below.{any-below}
 use Rattle.consensus.specs.Examples.{Four-readings}
 
 pub four-readings : Four-readings

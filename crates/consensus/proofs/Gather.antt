@@ -11,12 +11,14 @@ use lib.Dec.{eqb, ltb}
 use borrow.Author.Tests.{not-true}
 use Rattle.consensus.specs.Events.{Event, claim, deliver, step, lose, answer}
 use Rattle.consensus.specs.State.{update}
-use Rattle.consensus.specs.Rules.{any-below, is-bit}
+use Rattle.consensus.specs.Rules.{is-bit}
+use Rattle.basics.specs.Below.{any-below}
 use Rattle.consensus.specs.Figure.{View, Does, blocked, goes, broadcasts, proposes, known, Figure, onward, event}
 use Rattle.consensus.specs.System.{Process, System, view, moved, sending, proposing, storing, crashing}
 use Rattle.consensus.specs.Runs.{Label, decide, provided, broadcast-by, advance-by, deliver-by, with-process, stay, then, live, happens, happening}
 use Rattle.consensus.specs.Lines.{Inside, outset, onto, put-back}
-use Rattle.consensus.proofs.Basics.{by-bool, cond-ind, and-true, update-ind, pair-ind}
+use Rattle.consensus.proofs.Basics.{update-ind, pair-ind}
+use Rattle.basics.proofs.Bools.{by-bool, cond-ind, and-true}
 use Rattle.consensus.proofs.Lawful.{More, seen, Falls, Keeps, Silent, Moving, Lawful}
 
 -- ---- one process

@@ -17,7 +17,8 @@ use Rattle.consensus.specs.Rules.{step-from, after}
 use Rattle.consensus.specs.Terms.{ballot-at, takes, first-answer, voted-in, waits-on, answers-taken}
 use Rattle.consensus.specs.Demand3.{first-ballots}
 use Rattle.consensus.specs.Told.{awaited, Listed}
-use Rattle.consensus.proofs.Basics.{by-bool, no-clash, update-same}
+use Rattle.consensus.proofs.Basics.{update-same}
+use Rattle.basics.proofs.Bools.{by-bool, no-clash}
 use Rattle.consensus.proofs.Invariant.{votes}
 use Rattle.consensus.proofs.Spelling.{below-suc}
 use Rattle.consensus.proofs.Reached.{next-kept, reached}

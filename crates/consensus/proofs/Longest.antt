@@ -16,7 +16,7 @@ use Rattle.consensus.specs.Events.{Event, claim, deliver, step, lose, an
 use Rattle.consensus.specs.State.{claimed, claim-of}
 use Rattle.consensus.specs.Rules.{finish-ballot, after}
 use Rattle.consensus.specs.Terms.{Beginning, Fitting, Claims-fit, put-length, accepts, Happened, longest}
-use Rattle.consensus.proofs.Basics.{by-bool}
+use Rattle.basics.proofs.Bools.{by-bool}
 use Rattle.consensus.proofs.Invariant.{Unfinished}
 use Rattle.consensus.proofs.Spelling.{finish-answer}
 use Rattle.consensus.proofs.Reached.{reached}

@@ -10,10 +10,11 @@ use borrow.Author.Tests.{eqb-false, ne-eqb, lt-ltb}
 use Rattle.bits.specs.Words.{claimBits}
 use Rattle.consensus.specs.Events.{Event, claim, deliver, step, lose, answer, History, Rule, byClaim, Opening, rounds, ballots, ballotsOf}
 use Rattle.consensus.specs.State.{Stage, idle, waiting, voting, awaiting, seeking, finish-voting, finish-awaiting, decided, not-idle, claimed, held, answered}
-use Rattle.consensus.specs.Rules.{bit-ballot, finish-ballot, no-station, was-cast, as-bit, refuse, last-refusal, stage-number, number, after}
+use Rattle.consensus.specs.Rules.{bit-ballot, finish-ballot, no-station, was-cast, as-bit, last-refusal, stage-number, number, after}
+use Rattle.basics.specs.Tests.{refuse}
 use Rattle.consensus.specs.Terms.{Claims-fit, Put-in, Lost, Decided, Supplied}
 use Rattle.consensus.specs.Told.{awaited}
-use Rattle.consensus.proofs.Basics.{by-bool, no-clash}
+use Rattle.basics.proofs.Bools.{by-bool, no-clash}
 use Rattle.consensus.proofs.Invariant.{Part-ok}
 use Rattle.consensus.proofs.Reached.{reached}
 use Rattle.consensus.proofs.Accepted.{holds-shown, lost-shown, put-in-shown, answered-shown}

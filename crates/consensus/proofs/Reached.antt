@@ -9,7 +9,10 @@ use borrow.Author.Tests.{eqb-true, ltb-true}
 use Rattle.consensus.specs.Events.{Event, claim, deliver, step, lose, answer, History, start, _▷_, Opening, ballots}
 use Rattle.consensus.specs.State.{Stage, idle, waiting, voting, awaiting, seeking, finish-voting, finish-awaiting, decided, State, fresh, not-idle, claimed, held, answered, update, set-station}
 use Rattle.consensus.specs.Rules.{no-station, was-cast, is-bit, as-bit, stage-number, number, claiming, holding, losing, step-from, effect, next, after}
-use Rattle.consensus.proofs.Basics.{cond-ind, no-clash, update-ind, refused-not, not-false→true, or-false, any-found, is-bit-some}
+use Rattle.consensus.proofs.Basics.{update-ind, is-bit-some}
+use Rattle.basics.proofs.Bools.{cond-ind, no-clash, not-false→true, or-false}
+use Rattle.basics.proofs.Refusals.{refused-not}
+use Rattle.basics.proofs.Below.{any-found}
 use Rattle.consensus.proofs.Invariant.{Part-ok, Inv, Stage-ok, Spelling}
 use Rattle.consensus.proofs.Grows.{Grows, grows-refl, part-grows}
 use Rattle.consensus.proofs.Own.{Kept, Own-grows, own-kept}

@@ -11,12 +11,16 @@ use lib.Dec.{eqb, ltb}
 use borrow.Author.Tests.{lt-ltb}
 use Rattle.consensus.specs.Events.{Event, claim, deliver, step, lose, answer, Rule, byStation, byClaim, Opening, Openable, ballots}
 use Rattle.consensus.specs.State.{Stage, idle, waiting, Station, State, not-idle, claimed, claim-of, held, answered, update, set-station}
-use Rattle.consensus.specs.Rules.{any-below, is-bit, refuse, stage-number, number, claiming, holding, losing, step-from, effect, was-cast, as-bit}
+use Rattle.consensus.specs.Rules.{is-bit, stage-number, number, claiming, holding, losing, step-from, effect, was-cast, as-bit}
+use Rattle.basics.specs.Below.{any-below}
+use Rattle.basics.specs.Tests.{refuse}
 use Rattle.consensus.specs.Figure.{View, Does, broadcasts, known, event}
 use Rattle.consensus.specs.System.{Process, moved, sending, proposing, storing, crashing}
 use Rattle.consensus.specs.Runs.{provided, broadcast-by, advance-by, deliver-by, with-process, then, Label, decide, done, happens, happening}
 use Rattle.consensus.specs.Demand2.{figure-by, figure-of, place-by, Shows, Figure-state}
-use Rattle.consensus.proofs.Basics.{no-clash, update-ind, pair-ind, any-found, is-bit-some}
+use Rattle.consensus.proofs.Basics.{update-ind, pair-ind, is-bit-some}
+use Rattle.basics.proofs.Bools.{no-clash}
+use Rattle.basics.proofs.Below.{any-found}
 use Rattle.consensus.proofs.Invariant.{Stage-ok, Inv}
 use Rattle.consensus.proofs.Accepted.{step-active}
 use Rattle.consensus.proofs.Alike.{Alike, both-blocked, both-go, both-broadcast, both-propose, Verdict, both, neither, play-view, does-at, Side, side, Quiet, claim-side}

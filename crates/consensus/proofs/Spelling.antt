@@ -15,8 +15,10 @@ use Rattle.bits.proofs.Digits.{bit-ext, bit-zero, bit-above, length-bound}
 use Rattle.bits.proofs.Words.{bit-same, bit-other, agree-bits}
 use Rattle.consensus.specs.Events.{Rule, byStation, byClaim, Opening}
 use Rattle.consensus.specs.State.{State, claim-of}
-use Rattle.consensus.specs.Rules.{bit-ballot, bit-ballot-by, finish-ballot, spelled, spelled-by, any-below}
-use Rattle.consensus.proofs.Basics.{by-bool, and-true, any-found, any-none}
+use Rattle.consensus.specs.Rules.{bit-ballot, bit-ballot-by, finish-ballot, spelled, spelled-by}
+use Rattle.basics.specs.Below.{any-below}
+use Rattle.basics.proofs.Bools.{by-bool, and-true}
+use Rattle.basics.proofs.Below.{any-found, any-none}
 use Rattle.consensus.proofs.Invariant.{Fits, Word, Candidate, Unfinished, Round, Round-by, Bit-cast, Finish-cast, Cast-ok, Inv}
 
 -- below suc k: below k, or k

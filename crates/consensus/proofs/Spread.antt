@@ -12,7 +12,8 @@ use Rattle.consensus.specs.State.{update}
 use Rattle.consensus.specs.Figure.{View, Does, blocked, goes, broadcasts, proposes, Figure, onward, event}
 use Rattle.consensus.specs.System.{Process, System, view, moved, proposing}
 use Rattle.consensus.specs.Runs.{decide, then, provided, broadcast-by, advance-by, with-process, stay, live, happens, happening}
-use Rattle.consensus.proofs.Basics.{by-bool, update-same}
+use Rattle.consensus.proofs.Basics.{update-same}
+use Rattle.basics.proofs.Bools.{by-bool}
 use Rattle.consensus.proofs.Lawful.{seen, Moving, Lawful}
 use Rattle.consensus.proofs.Gather.{Ended, unsaid, Says-alike, says-first, onward-ended, onward-on, fall}
 

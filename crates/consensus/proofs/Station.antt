@@ -10,7 +10,8 @@ use Rattle.consensus.specs.Events.{Event, claim, deliver, step, lose, an
 use Rattle.consensus.specs.State.{Stage, idle, waiting, Station, State, update}
 use Rattle.consensus.specs.Rules.{number, step-from, effect, next}
 use Rattle.consensus.specs.Terms.{is-step}
-use Rattle.consensus.proofs.Basics.{no-clash, update-ind, update-same, and-true}
+use Rattle.consensus.proofs.Basics.{update-ind, update-same}
+use Rattle.basics.proofs.Bools.{no-clash, and-true}
 use Rattle.consensus.proofs.Reached.{next-ind, claim-accepted, idle-of}
 
 pub next-accepted : (o : Opening) (st : State) (e : Event) → number o st e ≡ 0 → next o st e ≡ effect o st e

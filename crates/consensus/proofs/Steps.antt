@@ -17,7 +17,9 @@ use Rattle.bits.proofs.Log.{log-enough}
 use Rattle.consensus.specs.Events.{Rule, byStation, byClaim, Opening}
 use Rattle.consensus.specs.State.{Stage, idle, waiting, voting, awaiting, seeking, finish-voting, finish-awaiting, decided, State, not-idle, claimed, claim-of, held, answered, bit-of, update, set-station}
 use Rattle.consensus.specs.Rules.{bit-ballot, bit-ballot-by, finish-ballot, spelled, stage-number, first-stage, found, finished, step-from}
-use Rattle.consensus.proofs.Basics.{cond-ind, no-clash, update-ind, update-same, refused-not, not-false→true, and-true}
+use Rattle.consensus.proofs.Basics.{update-ind, update-same}
+use Rattle.basics.proofs.Bools.{cond-ind, no-clash, not-false→true, and-true}
+use Rattle.basics.proofs.Refusals.{refused-not}
 use Rattle.consensus.proofs.Invariant.{Fits, Word, Candidate, Unfinished, Round-by, Finish-cast, Cast-ok, Spelling, Seeking, Decided-by, Stage-ok, Part-ok, Inv, votes, votes-by}
 use Rattle.consensus.proofs.Own.{Kept, moved, move-kept}
 use Rattle.consensus.proofs.Spelling

@@ -11,7 +11,7 @@ use Rattle.consensus.specs.State.{Stage, idle, waiting, voting, awaiting
 use Rattle.consensus.specs.Rules.{finish-ballot, finished, step-from, stage-number, next, after}
 use Rattle.consensus.specs.Terms.{takes, Supplied, Supplied-steps, longest}
 use Rattle.consensus.specs.Demand3.{most-steps}
-use Rattle.consensus.proofs.Basics.{by-bool, no-clash}
+use Rattle.basics.proofs.Bools.{by-bool, no-clash}
 use Rattle.consensus.proofs.Invariant.{Part-ok}
 use Rattle.consensus.proofs.Grows.{Grows, fits-grows}
 use Rattle.consensus.proofs.Steps.{opening, idle-refused, decided-refused}

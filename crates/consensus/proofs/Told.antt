@@ -18,7 +18,9 @@ use Rattle.consensus.specs.Rules.{bit-ballot, finish-ballot, spelled, as
 use Rattle.consensus.specs.Terms.{ballot-at, decision, given, or-else, listed, paired, with-answer, accepts, takes, first-answer, voted-in, waits-on, answers-taken, Decided}
 use Rattle.consensus.specs.Told.{awaited}
 use Rattle.consensus.specs.Demand3.{first-ballots}
-use Rattle.consensus.proofs.Basics.{by-bool, cond-ind, no-clash, update-ind, refused-not, not-false→true}
+use Rattle.consensus.proofs.Basics.{update-ind}
+use Rattle.basics.proofs.Bools.{by-bool, cond-ind, no-clash, not-false→true}
+use Rattle.basics.proofs.Refusals.{refused-not}
 use Rattle.consensus.proofs.Invariant.{Part-ok, votes, votes-by}
 use Rattle.consensus.proofs.Spelling.{below-suc}
 use Rattle.consensus.proofs.Steps.{one-station, opening, idle-refused, decided-refused}

@@ -6,6 +6,8 @@ use mathlib.Core.Option.{Option, none, some}
 use lib.Dec.{eqb, ltb}
 use Rattle.bits.specs.Digits.{bit}
 use Rattle.bits.specs.Words.{withBit, lowAgree}
+use Rattle.basics.specs.Tests.{refuse}
+use Rattle.basics.specs.Below.{any-below}
 use Rattle.consensus.specs.Events.{Event, claim, deliver, step, lose, answer, History, start, _▷_, Rule, byStation, byClaim, Opening, rounds, ballots}
 use Rattle.consensus.specs.State.{Stage, idle, waiting, voting, awaiting, seeking, finish-voting, finish-awaiting, decided, Station, State, fresh, claimed, claim-of, held, answered, bit-of, update, set-station, with-stage}
 
@@ -30,11 +32,6 @@ spelled-by byClaim st j = claim-of st j
 abbrev pub spelled : Opening → State → ℕ → ℕ
 spelled o st j = spelled-by (o .rule) st j
 
--- some number below n passes the test
-unfoldable pub any-below : ℕ → (ℕ → Bool) → Bool
-any-below ℕ.zero f = false
-any-below (suc n) f = f n || any-below n f
-
 -- what was cast is the bit a
 abbrev pub is-bit : Bool → Option Bool → Bool
 is-bit a none = false
@@ -49,10 +46,6 @@ abbrev pub as-bit : ℕ → Bool
 as-bit a = eqb a 1
 
 -- ---- numbers: 0 is accepted, and the first test met gives the number
-
-abbrev pub refuse : Bool → ℕ → ℕ → ℕ
-refuse true number rest = number
-refuse false number rest = rest
 
 abbrev pub no-station : Opening → ℕ → Bool
 no-station o s = not (ltb s (o .count))

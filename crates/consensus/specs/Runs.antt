@@ -8,7 +8,8 @@ use mathlib.Core.Option.{Option, none, some}
 use lib.Dec.{ltb, eqb}
 use Rattle.consensus.specs.Events.{Event, claim, deliver, step, lose, answer, History, start, _▷_}
 use Rattle.consensus.specs.State.{update}
-use Rattle.consensus.specs.Rules.{any-below, is-bit}
+use Rattle.consensus.specs.Rules.{is-bit}
+use Rattle.basics.specs.Below.{any-below}
 use Rattle.consensus.specs.Figure.{View, Does, blocked, goes, broadcasts, proposes, known}
 use Rattle.consensus.specs.System.{Process, System, view, initial, moved, sending, proposing, storing, crashing}
 

@@ -7,8 +7,8 @@ use native.Mathlib.Omega.{arith}
 use borrow.Author.Tests.{ltb-false}
 use lib.Dec.{eqb}
 use lib.ListN.{length}
-use Rattle.consensus.specs.Rules.{refuse}
-use Rattle.settlement.specs.declared.record.Event.the-variants.{Claim, Deliver, Step, Lose, Answer}
+use Rattle.basics.specs.Tests.{refuse}
+use Rattle.event.specs.declared.event.Event.the-variants.{Claim, Deliver, Step, Lose, Answer}
 use Rattle.log.specs.declared.field.Field.{Field}
 use Rattle.log.specs.declared.field.Field.the-variants.{Opening, Event, Note}
 use Rattle.log.specs.Table.{row-of}

@@ -1,7 +1,7 @@
 -- PUT as it is called from other languages: a field by its tag and numbers, an answer in one number. Assumes nothing.
 use Prim.Native.Nat.{ℕ, _+_, _*_}
 use mathlib.Core.List.{List}
-use Rattle.settlement.specs.declared.record.Event.the-variants.{Claim, Deliver, Step, Lose, Answer}
+use Rattle.event.specs.declared.event.Event.the-variants.{Claim, Deliver, Step, Lose, Answer}
 use Rattle.log.specs.declared.table.Kind as declared-kind
 use Rattle.log.specs.declared.table.Kind.the-variants as kind
 use Rattle.log.specs.declared.table.Known.{Known}

@@ -7,6 +7,7 @@ ghost use Rattle.exports.specs.Exports.{asked, put-answer, put-after};
 ghost use Rattle.report.specs.Report.{report};
 ghost use Rattle.report.specs.Written.{Printed};
 use bits::word::Word;
+use event::event::Event;
 use log::field::Field;
 use log::put::put;
 use log::read::Reading;
@@ -16,7 +17,6 @@ use log::table::Kind;
 use log::table::Known;
 use log::table::row_with;
 use report::report::report;
-use settlement::record::Event;
 
 #[no_mangle]
 pub extern "C" fn dagmuize_report(log: &[u8], out: &mut [u8]) -> usize

@@ -1,14 +1,15 @@
 // The lent entries behind functions by value: each lends a local to an entry and hands it back, so that a caller needs no reference.
 ghost use mathlib.Core.Path.{_≡_};
 ghost use Rattle.consensus.specs.Events.{claim, deliver, step, lose, answer};
-ghost use Rattle.settlement.specs.Events.{played, meant};
+ghost use Rattle.settlement.specs.Events.{played};
+ghost use Rattle.event.specs.Meant.{meant};
 use crate::events::answer_lent;
 use crate::events::claim_lent;
 use crate::events::deliver_lent;
 use crate::events::lose_lent;
 use crate::events::step_lent;
 use bits::word::Word;
-use settlement::record::Event;
+use event::event::Event;
 use settlement::record::Outcome;
 use settlement::record::Settlement;
 

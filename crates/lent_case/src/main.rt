@@ -1,8 +1,8 @@
 // Document 01's case S, every event of it through the entries on a lent settlement. It writes the number of each event, and how each station then stands.
+use event::event::Event;
 use lent::through::play_through;
 use settlement::look::look;
 use settlement::open::open;
-use settlement::record::Event;
 use settlement::record::Settlement;
 
 fn wide(x: u8) -> u64 {

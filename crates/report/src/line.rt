@@ -8,11 +8,11 @@ ghost use Rattle.report.specs.Written.{Wrote};
 use crate::writer::put_byte;
 use crate::writer::put_number;
 use crate::writer::put_word;
+use event::entry::Stage;
 use settlement::entry::station_at;
 use settlement::look::look;
 use settlement::reading::ballot_count;
 use settlement::record::Settlement;
-use settlement::record::Stage;
 use settlement::record::Standing;
 
 // A number after its name.

@@ -4,11 +4,12 @@ use mathlib.Core.Bool.{true}
 use Rattle.bits.specs.Digits.{bit, binaryDigits, digitsIn}
 use Rattle.bits.specs.Words.{withBit, lowAgree, wordWithBit, member, insert}
 use Rattle.bits.specs.Log.{ceilLog2, leastFrom}
-use Rattle.consensus.specs.Rules.{any-below}
+use Rattle.basics.specs.Below.{any-below}
 use Rattle.settlement.specs.Fault.{station-fault, fault}
-use Rattle.settlement.specs.Tests.{first-met, must-wait, takes-last-no, number}
-use Rattle.settlement.specs.Step.{started, voted, bit-taken, finish-taken, found, sought, stepped}
-use Rattle.settlement.specs.Events.{outcome, opened, effect, played}
+use Rattle.event.specs.Tests.{must-wait, takes-last-no}
+use Rattle.settlement.specs.Events.{number, outcome, opened, effect, played}
+use Rattle.basics.specs.Tests.{first-met}
+use Rattle.event.specs.Step.{started, voted, bit-taken, finish-taken, found, sought, stepped}
 use Rattle.settlement.specs.Look.{votes, looked}
 use Rattle.settlement.specs.Link.{record-after}
 use Rattle.bits.specs.Examples.{every}

@@ -10,7 +10,7 @@ use Rattle.settlement.specs.declared.record.Standing.{Standing}
 use Rattle.settlement.specs.Events.{opened, played}
 use Rattle.settlement.specs.Look.{looked}
 use Rattle.settlement.specs.Link.{record-after, all-accepted}
-use Rattle.settlement.specs.declared.record.Event.the-variants.{Claim, Deliver, Step, Answer}
+use Rattle.event.specs.declared.event.Event.the-variants.{Claim, Deliver, Step, Answer}
 use Rattle.log.specs.declared.field.Field.{Field}
 use Rattle.log.specs.declared.field.Field.the-variants.{Opening as Opens, Event as Is}
 use Rattle.log.specs.Field.{bytes}

@@ -6,11 +6,12 @@ use mathlib.Core.Bool.{true, false}
 use mathlib.Core.List.{List, [], _∷_}
 use lib.Dec.{eqb}
 use Rattle.consensus.specs.Events.{Event, claim, deliver, step, lose, answer}
-use Rattle.consensus.proofs.Basics.{no-clash, refused-not}
+use Rattle.basics.proofs.Bools.{no-clash}
+use Rattle.basics.proofs.Refusals.{refused-not}
 use Rattle.settlement.specs.declared.record.Settlement.{Settlement}
 use Rattle.settlement.specs.declared.record.Outcome.{Outcome}
-use Rattle.settlement.specs.Tests.{Test, when, first-met, tests, number}
-use Rattle.settlement.specs.Events.{outcome, effect, played}
+use Rattle.settlement.specs.Events.{tests, number, outcome, effect, played}
+use Rattle.basics.specs.Tests.{Test, when, first-met}
 use Rattle.settlement.specs.Demand1.{None-met, Met-first, Demand1}
 use Rattle.settlement.proofs.Refusals.{refused-outcome, accepted-outcome}
 

@@ -1,26 +1,24 @@
--- What a record that passes the record test says of numbers in it, and so what a STEP that is not refused relies on: each bound is a clause of the
--- test that is not met. Assumes nothing.
+-- What a record that passes the record test says of numbers in it: each bound is a clause of the test that is not met. Assumes nothing.
 use Prim.Native.Nat.{ℕ, _≤_, _<_}
 use native.Mathlib.Nat.{lt-of-lt-of-le}
 use native.Mathlib.Omega.{arith}
 use mathlib.Core.Path.{_≡_, refl}
-use mathlib.Core.List.{_∷_}
 use mathlib.Core.Bool.{Bool, true, false, not, _&&_, _||_}
 use lib.Dec.{eqb, ltb, leb}
-use borrow.Author.Tests.{ltb-true, ltb-false, leb-false}
+use borrow.Author.Tests.{ltb-false, leb-false}
 use Rattle.bits.specs.Log.{ceilLog2}
 use Rattle.bits.specs.Words.{claimBits}
 use Rattle.bits.proofs.Log.{log-le}
-use Rattle.consensus.specs.Events.{step}
-use Rattle.consensus.specs.Rules.{any-below}
-use Rattle.consensus.proofs.Basics.{by-bool, no-clash, refused-not, not-false→true, or-false, any-none}
-use Rattle.settlement.specs.declared.record.Stage.{Stage}
-use Rattle.settlement.specs.declared.record.Station.{Station}
+use Rattle.basics.specs.Below.{any-below}
+use Rattle.basics.proofs.Bools.{by-bool, no-clash, not-false→true, or-false}
+use Rattle.basics.proofs.Below.{any-none}
+use Rattle.event.specs.declared.entry.Stage.{Stage}
+use Rattle.event.specs.declared.entry.Station.{Station}
 use Rattle.settlement.specs.declared.record.Settlement.{Settlement}
-use Rattle.settlement.specs.Record.{stationEntries, entry, by-station, no-station}
-use Rattle.settlement.specs.Fault.{in-round, on-finish, past-waiting, station-fault, fault-at, fault}
-use Rattle.settlement.specs.Tests.{when, first-met, stage-tests, step-tests, number}
-use Rattle.settlement.specs.Range.{Ready}
+use Rattle.event.specs.Entries.{stationEntries, by-station}
+use Rattle.settlement.specs.Record.{entry}
+use Rattle.event.specs.Stages.{in-round, on-finish, past-waiting}
+use Rattle.settlement.specs.Fault.{station-fault, fault-at, fault}
 
 unless : (a b : Bool) → (a && b) ≡ false → a ≡ true → b ≡ false
 unless true b h e = h
@@ -82,30 +80,22 @@ module _ (r : Settlement) (passes : fault r ≡ false) where
     pub cursor-below : entry r s .cursor < r .count
     cursor-below = leb-false _ _ (clauses .cursor)
 
-    pub round-by-station : by-station r ≡ true → in-round (entry r s .stage) ≡ true → entry r s .round < ceilLog2 (r .count)
-    round-by-station rule stage = leb-false _ _ (unless (by-station r && in-round (entry r s .stage)) _ (clauses .round) (rw (rule, stage)))
+    pub round-by-station : by-station (r .rule) ≡ true → in-round (entry r s .stage) ≡ true → entry r s .round < ceilLog2 (r .count)
+    round-by-station rule stage = leb-false _ _ (unless (by-station (r .rule) && in-round (entry r s .stage)) _ (clauses .round) (rw (rule, stage)))
 
-    pub no-finish-by-station : by-station r ≡ true → on-finish (entry r s .stage) ≡ false
+    pub no-finish-by-station : by-station (r .rule) ≡ true → on-finish (entry r s .stage) ≡ false
     no-finish-by-station rule = unless _ _ (clauses .finish) rule
 
-    pub round-by-claim : by-station r ≡ false → past-waiting (entry r s .stage) ≡ true → entry r s .round < claimBits
+    pub round-by-claim : by-station (r .rule) ≡ false → past-waiting (entry r s .stage) ≡ true → entry r s .round < claimBits
     round-by-claim rule stage =
         leb-false _ _
         (unless (eqb (r .rule) 2 && past-waiting (entry r s .stage)) _ (clauses .late) (rw (other _ _ some-rule rule, stage)))
 
     pub round-below : (in-round (entry r s .stage) || on-finish (entry r s .stage)) ≡ true → entry r s .round < claimBits
     round-below acting =
-        by-bool (by-station r)
+        by-bool (by-station (r .rule))
         (λ rule.
         let low : entry r s .round < ceilLog2 (r .count) =
         round-by-station rule (by-bool (in-round (entry r s .stage)) (λ e. e) (λ e. no-clash _ (other _ _ acting e) (no-finish-by-station rule))) in
         lt-of-lt-of-le low (omega (arith, log-le (r .count) 5 few-stations)))
         (λ rule. round-by-claim rule (acting-past (entry r s .stage) acting))
-
-pub ready : (r : Settlement) (s : ℕ) → number r (step s) ≡ 0 → Ready r (entry r s)
-unfolding number first-met
-ready r s h =
-    let passed = refused-not (fault r) 42 (first-met (step-tests r s)) refl h in
-    let here = refused-not (no-station r s) 1 (first-met (when (entry r s .lost) 2 ∷ stage-tests r s (entry r s))) refl (passed .1) in
-    let below : s < r .count = ltb-true s (r .count) (not-false→true _ (here .0)) in
-    record { some = omega arith; round = round-below r (passed .0) s below }

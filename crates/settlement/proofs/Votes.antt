@@ -5,41 +5,45 @@ use mathlib.Core.Path.{_≡_, refl}
 use mathlib.Core.Bool.{true, false, _||_}
 use mathlib.Core.List.{_∷_, []}
 use borrow.Author.Tests.{ltb-true}
+use Rattle.bits.specs.Log.{ceilLog2}
 use Rattle.bits.specs.Words.{claimBits}
 use Rattle.bits.proofs.Log.{log-le}
-use Rattle.consensus.proofs.Basics.{cond-ind, refused-not, not-false→true}
-use Rattle.settlement.specs.declared.record.Stage.{Stage}
-use Rattle.settlement.specs.declared.record.Stage.the-variants.{Idle, Waiting, Voting, Awaiting, Seeking, FinishVoting, FinishAwaiting, Decided}
+use Rattle.basics.proofs.Bools.{cond-ind, not-false→true}
+use Rattle.basics.proofs.Refusals.{refused-not}
+use Rattle.event.specs.declared.entry.Stage.{Stage}
+use Rattle.event.specs.declared.entry.Stage.the-variants.{Idle, Waiting, Voting, Awaiting, Seeking, FinishVoting, FinishAwaiting, Decided}
 use Rattle.settlement.specs.declared.record.Settlement.{Settlement}
-use Rattle.settlement.specs.Record.{entry, by-station, rounds, no-station}
-use Rattle.settlement.specs.Fault.{in-round, on-finish, fault}
-use Rattle.settlement.specs.Tests.{when, first-met, look-tests}
-use Rattle.settlement.specs.Look.{votes}
+use Rattle.settlement.specs.Record.{entry}
+use Rattle.event.specs.Entries.{by-station, no-station}
+use Rattle.event.specs.Stages.{in-round, on-finish}
+use Rattle.settlement.specs.Fault.{fault}
+use Rattle.basics.specs.Tests.{when, first-met}
+use Rattle.settlement.specs.Look.{look-tests, votes}
 use Rattle.settlement.proofs.Range.{few-stations, round-below, round-by-claim}
 
 module _ (r : Settlement) (passes : fault r ≡ false) (s : ℕ) (below : s < r .count) where
-  few-rounds : rounds r < 256
+  few-rounds : ceilLog2 (r .count) < 256
   few-rounds = omega (arith, log-le (r .count) 5 (few-stations r passes))
 
   acting : {g : Stage} → entry r s .stage ≡ g → (in-round g || on-finish g) ≡ true → entry r s .round < claimBits
   acting e h = round-below r passes s below (rw e h)
 
-  few : (g : Stage) → entry r s .stage ≡ g → votes r (entry r s) g < 256
+  few : (g : Stage) → entry r s .stage ≡ g → votes (r .count) (r .rule) (entry r s) g < 256
   unfolding votes
   few Idle e = omega arith
   few Waiting e = omega arith
-  few Voting e = let k = acting e refl in cond-ind (λ (n : ℕ). n < 256) (by-station r) _ _ (λ b. omega arith) (λ b. omega arith)
-  few Awaiting e = let k = acting e refl in cond-ind (λ (n : ℕ). n < 256) (by-station r) _ _ (λ b. omega arith) (λ b. omega arith)
-  few Seeking e = let k = acting e refl in cond-ind (λ (n : ℕ). n < 256) (by-station r) _ _ (λ b. omega arith) (λ b. omega arith)
+  few Voting e = let k = acting e refl in cond-ind (λ (n : ℕ). n < 256) (by-station (r .rule)) _ _ (λ b. omega arith) (λ b. omega arith)
+  few Awaiting e = let k = acting e refl in cond-ind (λ (n : ℕ). n < 256) (by-station (r .rule)) _ _ (λ b. omega arith) (λ b. omega arith)
+  few Seeking e = let k = acting e refl in cond-ind (λ (n : ℕ). n < 256) (by-station (r .rule)) _ _ (λ b. omega arith) (λ b. omega arith)
   few FinishVoting e = let k = acting e refl in omega arith
   few FinishAwaiting e = let k = acting e refl in omega arith
   few Decided e =
-      cond-ind (λ (n : ℕ). n < 256) (by-station r) (rounds r) (2 * entry r s .round + 2) (λ b. few-rounds)
+      cond-ind (λ (n : ℕ). n < 256) (by-station (r .rule)) (ceilLog2 (r .count)) (2 * entry r s .round + 2) (λ b. few-rounds)
       (λ b. let k = round-by-claim r passes s below b (rw e) in omega arith)
 
-pub few-votes : (r : Settlement) (s : ℕ) → first-met (look-tests r s) ≡ 0 → votes r (entry r s) (entry r s .stage) < 256
+pub few-votes : (r : Settlement) (s : ℕ) → first-met (look-tests r s) ≡ 0 → votes (r .count) (r .rule) (entry r s) (entry r s .stage) < 256
 unfolding first-met
 few-votes r s h =
-    let passed = refused-not (fault r) 42 (first-met (when (no-station r s) 1 ∷ [])) refl h in
-    let here = refused-not (no-station r s) 1 0 refl (passed .1) in
+    let passed = refused-not (fault r) 42 (first-met (when (no-station (r .count) s) 1 ∷ [])) refl h in
+    let here = refused-not (no-station (r .count) s) 1 0 refl (passed .1) in
     few r (passed .0) s (ltb-true s (r .count) (not-false→true _ (here .0))) (entry r s .stage) refl

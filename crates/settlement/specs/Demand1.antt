@@ -6,8 +6,8 @@ use mathlib.Core.Bool.{true, false}
 use mathlib.Core.List.{List, [], _∷_}
 use Rattle.consensus.specs.Events.{Event}
 use Rattle.settlement.specs.declared.record.Settlement.{Settlement}
-use Rattle.settlement.specs.Tests.{Test, when, tests}
-use Rattle.settlement.specs.Events.{effect, played}
+use Rattle.settlement.specs.Events.{tests, effect, played}
+use Rattle.basics.specs.Tests.{Test, when}
 
 -- no test of the list is met
 abbrev pub None-met : List Test → Type 0

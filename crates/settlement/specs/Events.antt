@@ -1,25 +1,32 @@
--- OPEN and the five events, whole: number and record (document 01, "Operations and what they turn away").
--- An event of the list is `Rattle.consensus.specs.Events.Event`, with any numbers as arguments; the crate's enum is translated to it.
--- Assumes nothing.
+-- OPEN and the five events, whole: number and record (document 01, "Operations and what they turn away"). What an event does to the entries that it
+-- looks at is said in `Rattle.event.specs`; here it is lifted to the record. Assumes nothing.
 use Prim.Native.Nat.{ℕ}
-use mathlib.Core.Bool.{cond}
-use lib.Dec.{eqb}
+use mathlib.Core.Bool.{cond, not, _||_}
+use mathlib.Core.List.{List, [], _∷_}
+use lib.Dec.{eqb, ltb}
 use lib.ListN.{replicate}
-use Rattle.consensus.specs.Events.{Event, claim, deliver, step, lose, answer}
-use Rattle.consensus.specs.Rules.{as-bit}
+use Rattle.basics.specs.Tests.{Test, when, first-met}
+use Rattle.consensus.specs.Events.{Event}
+use Rattle.event.specs.Entries.{stationEntries, ballotEntries, blank-station, blank-ballot}
+use Rattle.event.specs.Places.{own-of}
+use Rattle.event.specs.Tests.{tests-on}
+use Rattle.event.specs.Change.{own-after, ballot-after}
 use Rattle.settlement.specs.declared.record.Settlement.{Settlement}
 use Rattle.settlement.specs.declared.record.Outcome.{Outcome}
-use Rattle.settlement.specs.declared.record.Event as declared-event
-use Rattle.settlement.specs.declared.record.Event.the-variants.{Claim, Deliver, Step, Lose, Answer}
-use Rattle.settlement.specs.Record.{stationEntries, ballotEntries, blank-station, blank-ballot, entry, ballot, with-station, with-ballot, claiming, holding, losing, answering}
-use Rattle.settlement.specs.Tests.{first-met, open-tests, number}
-use Rattle.settlement.specs.Step.{stepped}
+use Rattle.settlement.specs.Record.{with-station, with-ballot, ballot-in, view}
+use Rattle.settlement.specs.Fault.{fault}
 
 -- "An accepted call answers 0. A refused event answers its number and the very settlement it was given."
 unfoldable pub outcome : ℕ → Settlement → Settlement → Outcome
 outcome k next given = record { number = k; settlement = cond (eqb k 0) next given }
 
 -- ---- OPEN n, rule
+
+abbrev pub open-tests : ℕ → ℕ → List Test
+open-tests n rule =
+    when (eqb n 0 || ltb stationEntries n) 40
+    ∷ when (not (eqb rule 1 || eqb rule 2)) 41
+    ∷ []
 
 -- n stations under a rule, and every entry as it starts
 abbrev pub fresh : ℕ → ℕ → Settlement
@@ -40,21 +47,16 @@ opened n rule = outcome (first-met (open-tests n rule)) (fresh n rule) blank
 
 -- ---- the events
 
--- what an accepted event makes of the record
+-- "Every event and LOOK first test the record"; then come the event's own tests, on what it looks at
+abbrev pub tests : Settlement → Event → List Test
+tests r e = when (fault r) 42 ∷ tests-on (view r e) e
+
+unfoldable pub number : Settlement → Event → ℕ
+number r e = first-met (tests r e)
+
+-- what an accepted event makes of the record: its own station's entry and its ballot's entry are replaced
 unfoldable pub effect : Settlement → Event → Settlement
-effect r (claim s v) = with-station s (claiming v (entry r s)) r
-effect r (deliver t s) = with-station s (holding t (entry r s)) r
-effect r (step s) = stepped r s (entry r s) (entry r s .stage)
-effect r (lose s) = with-station s (losing (entry r s)) r
-effect r (answer b a) = with-ballot b (answering (as-bit a) (ballot r b)) r
+effect r e = with-ballot (ballot-in r e) (ballot-after (view r e) e) (with-station (own-of e) (own-after (view r e) e) r)
 
 unfoldable pub played : Settlement → Event → Outcome
 played r e = outcome (number r e) (effect r e) r
-
--- the crate's enum as an event of the list
-abbrev pub meant : declared-event.Event → Event
-meant (Claim s v) = claim s v
-meant (Deliver t s) = deliver t s
-meant (Step s) = step s
-meant (Lose s) = lose s
-meant (Answer b a) = answer b a

@@ -1,41 +1,15 @@
 -- The record test (document 01, "Every event and LOOK first test the record"): met, it gives 42. Assumes nothing.
 use Prim.Native.Nat.{ℕ}
-use mathlib.Core.Bool.{Bool, true, false, not, _&&_, _||_}
+use mathlib.Core.Bool.{Bool, not, _&&_, _||_}
 use lib.Dec.{eqb, ltb, leb}
+use Rattle.basics.specs.Below.{any-below}
 use Rattle.bits.specs.Log.{ceilLog2}
 use Rattle.bits.specs.Words.{claimBits}
-use Rattle.consensus.specs.Rules.{any-below}
-use Rattle.settlement.specs.declared.record.Stage.{Stage}
-use Rattle.settlement.specs.declared.record.Stage.the-variants.{Idle, Waiting, Voting, Awaiting, Seeking, FinishVoting, FinishAwaiting, Decided}
-use Rattle.settlement.specs.declared.record.Station.{Station}
+use Rattle.event.specs.declared.entry.Station.{Station}
+use Rattle.event.specs.Stages.{in-round, on-finish, past-waiting}
+use Rattle.event.specs.Entries.{stationEntries}
 use Rattle.settlement.specs.declared.record.Settlement.{Settlement}
-use Rattle.settlement.specs.Record.{stationEntries, entry, is-decided}
-
--- a voting, awaiting or seeking station
-abbrev pub in-round : Stage → Bool
-in-round Idle = false
-in-round Waiting = false
-in-round Voting = true
-in-round Awaiting = true
-in-round Seeking = true
-in-round FinishVoting = false
-in-round FinishAwaiting = false
-in-round Decided = false
-
--- a station voting or awaiting on a finish ballot
-abbrev pub on-finish : Stage → Bool
-on-finish Idle = false
-on-finish Waiting = false
-on-finish Voting = false
-on-finish Awaiting = false
-on-finish Seeking = false
-on-finish FinishVoting = true
-on-finish FinishAwaiting = true
-on-finish Decided = false
-
--- a station past waiting: in a round, on a finish ballot or decided
-abbrev pub past-waiting : Stage → Bool
-past-waiting g = in-round g || on-finish g || is-decided g
+use Rattle.settlement.specs.Record.{entry}
 
 -- "a station below n whose cursor is n or more;
 -- a voting, awaiting or seeking station whose round is R or more under rule 1;

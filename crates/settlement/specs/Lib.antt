@@ -1,9 +1,6 @@
 -- What the crate `settlement` is about, as a reader must believe it. Every definition speaks of any record, made-up ones included.
---     Record    entries read and replaced, what a record says, changed entries
+--     Record    entries read and replaced, and what an event looks at
 --     Fault     the record test, 42
---     Tests     what each operation is turned away for, in order
---     Range     what the functions of STEP rely on (a reader may skip it)
---     Step      what one STEP does
 --     Events    OPEN and the five events, whole
 --     Look      LOOK, whole
 --     Demand1   demand 1, as one law over every event and every record
@@ -12,9 +9,6 @@
 --     Edges     the edges of the record test, as one list
 pub mod Record
 pub mod Fault
-pub mod Tests
-pub mod Range
-pub mod Step
 pub mod Events
 pub mod Look
 pub mod Demand1

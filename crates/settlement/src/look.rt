@@ -1,33 +1,27 @@
 // LOOK s.
 ghost use mathlib.Core.Path.{_≡_};
 ghost use mathlib.Core.Bool.{cond};
-ghost use Rattle.settlement.specs.Tests.{first-met, look-tests};
-ghost use Rattle.settlement.specs.Look.{votes, looked};
-use crate::entry::station_at;
-use crate::reading::is_decided;
-use crate::reading::no_station;
+ghost use Rattle.basics.specs.Tests.{first-met};
+ghost use Rattle.settlement.specs.Look.{look-tests, votes, shown-claim, looked};
+use crate::fault::faulty;
 use crate::record::Settlement;
-use crate::record::Stage;
 use crate::record::Standing;
-use crate::record::Station;
-use crate::refusal::record_first;
-use crate::refusal::refuse;
+use basics::refusal::refuse;
 use bits::logarithm::ceil_log2;
 use bits::word::Word;
+use event::entry::Stage;
+use event::entry::Station;
+use event::place::station_place;
+use event::reading::no_station;
+use event::stage::is_decided;
 
-fn look_number(r: Settlement, s: u8) -> u8
-    ensures { λ x. ⌜ x ≡ first-met (look-tests r s) ⌝ }
+// The votes of a station that stands so, in a record of n stations.
+pub fn votes(n: u8, rule: u8, t: Station) -> usize
+    ensures { λ x. ⌜ x ≡ votes n rule t (t .stage) ⌝ }
 {
-    record_first(r, refuse(no_station(r, s), 1, 0))
-}
-
-// The votes of a station that stands so.
-fn votes(r: Settlement, t: Station) -> usize
-    ensures { λ x. ⌜ x ≡ votes r t (t .stage) ⌝ }
-{
-    let by_station = r.rule == 1;
+    let by_station = rule == 1;
     let k = t.round as usize;
-    let rounds = ceil_log2(r.count) as usize;
+    let rounds = ceil_log2(n) as usize;
     let stage = t.stage;
     match stage {
         Stage::Idle => 0,
@@ -42,10 +36,18 @@ fn votes(r: Settlement, t: Station) -> usize
 }
 
 // The claim decided, and 0 before.
-fn shown(decided: bool, decision: Word) -> Word
-    ensures { λ x. ⌜ x ≡ cond decided decision 0 ⌝ }
+pub fn shown_claim(t: Station) -> Word
+    ensures { λ x. ⌜ x ≡ shown-claim t ⌝ }
 {
-    if decided { decision } else { 0 }
+    let stage = t.stage;
+    let decided = is_decided(stage);
+    if decided { t.decision } else { 0 }
+}
+
+fn look_number(r: Settlement, s: u8) -> u8
+    ensures { λ x. ⌜ x ≡ first-met (look-tests r s) ⌝ }
+{
+    refuse(faulty(r), 42, refuse(no_station(r.count, s), 1, 0))
 }
 
 // Whether station s has decided, its claim (0 if undecided) and its votes. A refusal gives undecided, 0, 0.
@@ -61,13 +63,13 @@ pub fn look(r: Settlement, s: u8) -> Standing
             votes: 0,
         };
     }
-    let t = station_at(r, s);
+    let i = station_place(s);
+    let t = r.stations[i];
     let stage = t.stage;
-    let decided = is_decided(stage);
     Standing {
         number,
-        decided,
-        claim: shown(decided, t.decision),
-        votes: votes(r, t) as u8,
+        decided: is_decided(stage),
+        claim: shown_claim(t),
+        votes: votes(r.count, r.rule, t) as u8,
     }
 }

@@ -1,15 +1,14 @@
 // OPEN n, rule.
 ghost use mathlib.Core.Path.{_≡_};
-ghost use Rattle.settlement.specs.Tests.{first-met, open-tests};
-ghost use Rattle.settlement.specs.Events.{fresh, opened};
-use crate::entry::blank_ballot;
-use crate::entry::blank_station;
-use crate::record::BALLOT_ENTRIES;
+ghost use Rattle.settlement.specs.Events.{open-tests, fresh, opened};
+ghost use Rattle.basics.specs.Tests.{first-met};
 use crate::record::Outcome;
-use crate::record::STATION_ENTRIES;
 use crate::record::Settlement;
-use crate::refusal::joined;
-use crate::refusal::refuse;
+use basics::refusal::refuse;
+use event::entry::BALLOT_ENTRIES;
+use event::entry::STATION_ENTRIES;
+use event::entry::blank_ballot;
+use event::entry::blank_station;
 
 // n stations under a rule, and every entry as it starts.
 fn fresh(n: u8, rule: u8) -> Settlement
@@ -36,5 +35,15 @@ fn open_number(n: u8, rule: u8) -> u8
 pub fn open(n: u8, rule: u8) -> Outcome
     ensures { λ x. ⌜ x ≡ opened n rule ⌝ }
 {
-    joined(open_number(n, rule), fresh(n, rule), fresh(0, 1))
+    let number = open_number(n, rule);
+    if number != 0 {
+        return Outcome {
+            number,
+            settlement: fresh(0, 1),
+        };
+    }
+    Outcome {
+        number,
+        settlement: fresh(n, rule),
+    }
 }

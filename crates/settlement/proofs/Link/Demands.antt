@@ -16,9 +16,11 @@ use Rattle.bits.proofs.Masks.{member-none}
 use Rattle.consensus.specs.Events.{Event, claim, deliver, step, lose, answer, History, start, _▷_, Rule, byStation, byClaim, Opening, Openable}
 use Rattle.consensus.specs.State as play
 use Rattle.consensus.specs.Rules as rules
-use Rattle.consensus.specs.Rules.{refuse, any-below}
+use Rattle.basics.specs.Tests.{refuse, first-met}
+use Rattle.basics.specs.Below.{any-below}
 use Rattle.consensus.specs.Terms.{decision, voted-in, Decided, Fitting, Claims-fit}
-use Rattle.consensus.proofs.Basics.{by-bool, no-clash, refused-not, not-false→true, or-false}
+use Rattle.basics.proofs.Bools.{by-bool, no-clash, not-false→true, or-false}
+use Rattle.basics.proofs.Refusals.{refused-not, met}
 use Rattle.consensus.proofs.Invariant as invariant
 use Rattle.consensus.proofs.Reached.{reached, step-accepted}
 use Rattle.consensus.proofs.Station.{taken}
@@ -28,20 +30,23 @@ use Rattle.consensus.proofs.Told.{stage-after, voted-shown, decided-shown, show
 use Rattle.consensus.proofs.Agree.{length-up-to}
 use Rattle.consensus.proofs.Demand3 as play-proofs
 use Rattle.consensus.proofs.Figures as figure-proofs
-use Rattle.settlement.specs.declared.record.Stage.{Stage}
-use Rattle.settlement.specs.declared.record.Stage.the-variants.{Idle, Waiting, Voting, Awaiting, Seeking, FinishVoting, FinishAwaiting, Decided as Has-decided}
-use Rattle.settlement.specs.declared.record.Station.{Station}
+use Rattle.event.specs.declared.entry.Stage.{Stage}
+use Rattle.event.specs.declared.entry.Stage.the-variants.{Idle, Waiting, Voting, Awaiting, Seeking, FinishVoting, FinishAwaiting, Decided as Has-decided}
+use Rattle.event.specs.declared.entry.Station.{Station}
 use Rattle.settlement.specs.declared.record.Settlement.{Settlement}
 use Rattle.settlement.specs.declared.record.Standing.{Standing}
-use Rattle.settlement.specs.Record.{stationEntries, ballotEntries, blank-station, blank-ballot, entry, is-decided, no-station, was-cast}
+use Rattle.event.specs.Entries.{stationEntries, ballotEntries, blank-station, blank-ballot, no-station, was-cast}
+use Rattle.settlement.specs.Record.{entry}
+use Rattle.event.specs.Stages.{is-decided}
 use Rattle.settlement.specs.Fault.{fault}
-use Rattle.settlement.specs.Tests.{first-met, open-tests, look-tests, number}
-use Rattle.settlement.specs.Events.{outcome, fresh, blank, opened, effect, played}
+use Rattle.settlement.specs.Events.{open-tests, number, outcome, fresh, blank, opened, effect, played}
+use Rattle.settlement.specs.Look.{look-tests}
 use Rattle.settlement.specs.Look.{votes, standing, turned-away, looked}
 use Rattle.settlement.specs.Link.{rule-number, record-after, stage-of, answer-in, Shows-play}
 use Rattle.settlement.specs.Demands.{Answers-told, Sound, Demand2-of-records, blank-number, Demands}
 use Rattle.settlement.proofs.Link.Linked.{Entry-shows, Linked, linked-shows}
-use Rattle.settlement.proofs.Link.Faultless.{none-below, rule-known, faultless}
+use Rattle.settlement.proofs.Link.Faultless.{rule-known, faultless}
+use Rattle.basics.proofs.Below.{none-below}
 use Rattle.settlement.proofs.Link.Numbers.{bit-ballot-same, number-same}
 use Rattle.settlement.proofs.Link.Effects.{effect-linked}
 
@@ -120,7 +125,7 @@ one-more byClaim k = add-one (2 * k)
 
 -- votes by stage, for each rule
 votes-same-by : (n : ℕ) (q : Rule) (r : Settlement) → r .count ≡ n → r .rule ≡ rule-number q → (t : Station) (g : Stage)
-    → votes r t g ≡ invariant.votes (record { count = n; rule = q }) (stage-of g (t .cursor) (t .round) (t .word) (t .decision))
+    → votes (r .count) (r .rule) t g ≡ invariant.votes (record { count = n; rule = q }) (stage-of g (t .cursor) (t .round) (t .word) (t .decision))
 unfolding votes
 votes-same-by n q r c e t Idle = refl
 votes-same-by n q r c e t Waiting = refl
@@ -153,23 +158,23 @@ module _ (o : Opening) (a : Openable o) (h : History) (f : Claims-fit h) where
   clear : fault r ≡ false
   clear = faultless o a r (rules.after o h) linked (reached o h) (round-below o h f)
 
-  look-number : (s : ℕ) → first-met (look-tests r s) ≡ refuse (no-station r s) 1 0
+  look-number : (s : ℕ) → first-met (look-tests r s) ≡ refuse (no-station (r .count) s) 1 0
   unfolding first-met
-  look-number s = ap (λ (b : Bool). refuse b 42 (refuse (no-station r s) 1 0)) clear
+  look-number s = ap (λ (b : Bool). refuse b 42 (refuse (no-station (r .count) s) 1 0)) clear
 
-  look-inside : (s : ℕ) → s < o .count → looked r s ≡ standing r (entry r s)
+  look-inside : (s : ℕ) → s < o .count → looked r s ≡ standing (r .count) (r .rule) (entry r s)
   unfolding looked
   look-inside s b =
-      ap (λ (k : ℕ). cond (eqb k 0) (standing r (entry r s)) (turned-away k))
+      ap (λ (k : ℕ). cond (eqb k 0) (standing (r .count) (r .rule) (entry r s)) (turned-away k))
       (look-number s ∙ ap (λ (x : Bool). refuse (not x) 1 0) (lt-ltb s (r .count) (subst (λ (n : ℕ). s < n) (sym (linked .count)) b)))
 
   look-outside : (s : ℕ) → o .count ≤ s → looked r s ≡ turned-away 1
   unfolding looked
   look-outside s b =
-      ap (λ (k : ℕ). cond (eqb k 0) (standing r (entry r s)) (turned-away k))
+      ap (λ (k : ℕ). cond (eqb k 0) (standing (r .count) (r .rule) (entry r s)) (turned-away k))
       (look-number s ∙ ap (λ (x : Bool). refuse (not x) 1 0) (le-ltb s (r .count) (subst (λ (n : ℕ). n ≤ s) (sym (linked .count)) b)))
 
-  look-votes : (s : ℕ) → s < o .count → votes r (entry r s) (entry r s .stage) ≡ length (voted-in o s h)
+  look-votes : (s : ℕ) → s < o .count → votes (r .count) (r .rule) (entry r s) (entry r s .stage) ≡ length (voted-in o s h)
   look-votes s b =
       votes-same-by (o .count) (o .rule) r (linked .count) (linked .rule) (entry r s) (entry r s .stage)
       ∙ ap (invariant.votes o) (linked .entries s b .stage)
@@ -204,13 +209,13 @@ module _ (o : Opening) (a : Openable o) (h : History) (f : Claims-fit h) where
   look-decided s v b d =
       let x = entry-decided s v b d in
       look-inside s b
-      ∙ ap (λ (y : Bool). told-as y (cond y (entry r s .decision) 0) (votes r (entry r s) (entry r s .stage))) (x .0)
+      ∙ ap (λ (y : Bool). told-as y (cond y (entry r s .decision) 0) (votes (r .count) (r .rule) (entry r s) (entry r s .stage))) (x .0)
       ∙ ap₂ (told-as true) (x .1) (look-votes s b)
 
   look-undecided : (s : ℕ) → s < o .count → ((v : ℕ) → Decided o s v h → ⊥) → looked r s ≡ told-as false 0 (length (voted-in o s h))
   look-undecided s b n =
       look-inside s b
-      ∙ ap (λ (y : Bool). told-as y (cond y (entry r s .decision) 0) (votes r (entry r s) (entry r s .stage))) (entry-undecided s b n)
+      ∙ ap (λ (y : Bool). told-as y (cond y (entry r s .decision) 0) (votes (r .count) (r .rule) (entry r s) (entry r s .stage))) (entry-undecided s b n)
       ∙ ap (told-as false 0) (look-votes s b)
 
   numbers : (e : Event) → played r e .number ≡ rules.number o (rules.after o h) e
@@ -290,19 +295,15 @@ opens-only n rule e =
       q .1,
     )
 
--- a test that is met gives its number
-met : (t : Bool) (m rest : ℕ) → t ≡ true → refuse t m rest ≡ m
-met t m rest e = ap (λ (b : Bool). refuse b m rest) e
-
-nobody : (s : ℕ) → no-station blank s ≡ true
+nobody : (s : ℕ) → no-station 0 s ≡ true
 nobody s = ap not (le-ltb s 0 zero-le)
 
 blank-number-is : (e : Event) → number blank e ≡ blank-number e
 unfolding number first-met fault any-below
-blank-number-is (claim s v) = met (no-station blank s) 1 _ (nobody s)
-blank-number-is (deliver t s) = met (no-station blank t || no-station blank s) 1 _ (ap (λ (b : Bool). b || no-station blank s) (nobody t))
-blank-number-is (step s) = met (no-station blank s) 1 _ (nobody s)
-blank-number-is (lose s) = met (no-station blank s) 1 _ (nobody s)
+blank-number-is (claim s v) = met (no-station 0 s) 1 _ (nobody s)
+blank-number-is (deliver t s) = met (no-station 0 t || no-station 0 s) 1 _ (ap (λ (b : Bool). b || no-station 0 s) (nobody t))
+blank-number-is (step s) = met (no-station 0 s) 1 _ (nobody s)
+blank-number-is (lose s) = met (no-station 0 s) 1 _ (nobody s)
 blank-number-is (answer b v) = met (not (ltb b 0)) 9 _ (ap not (le-ltb b 0 zero-le))
 
 blank-refused : (e : Event) → cond (eqb (blank-number e) 0) (effect blank e) blank ≡ blank
@@ -319,7 +320,7 @@ blank-refuses e = ap (λ (k : ℕ). outcome k (effect blank e) blank) (blank-num
 blank-shows : (s : ℕ) → looked blank s ≡ turned-away 1
 unfolding looked first-met fault any-below
 blank-shows s =
-    ap (λ (k : ℕ). cond (eqb k 0) (standing blank (entry blank s)) (turned-away k)) (met (no-station blank s) 1 _ (nobody s))
+    ap (λ (k : ℕ). cond (eqb k 0) (standing 0 1 (entry blank s)) (turned-away k)) (met (no-station 0 s) 1 _ (nobody s))
 
 -- ---- all together
 

@@ -10,23 +10,22 @@ use Rattle.bits.specs.Log.{ceilLog2}
 use Rattle.bits.specs.Words.{claimBits}
 use Rattle.consensus.specs.Events.{Rule, byStation, byClaim, Opening, Openable}
 use Rattle.consensus.specs.State as play
-use Rattle.consensus.specs.Rules.{any-below}
-use Rattle.consensus.proofs.Basics.{by-bool, no-clash, any-found}
+use Rattle.basics.specs.Below.{any-below}
+use Rattle.basics.proofs.Below.{none-below}
 use Rattle.consensus.proofs.Invariant.{Stage-ok, Inv}
 use Rattle.consensus.proofs.Ballots.{Short}
 use Rattle.consensus.proofs.Supplied.{no-such-rule}
 use Rattle.consensus.proofs.Steps.{opening}
-use Rattle.settlement.specs.declared.record.Stage.{Stage}
-use Rattle.settlement.specs.declared.record.Stage.the-variants.{Idle, Waiting, Voting, Awaiting, Seeking, FinishVoting, FinishAwaiting, Decided}
-use Rattle.settlement.specs.declared.record.Station.{Station}
+use Rattle.event.specs.declared.entry.Stage.{Stage}
+use Rattle.event.specs.declared.entry.Stage.the-variants.{Idle, Waiting, Voting, Awaiting, Seeking, FinishVoting, FinishAwaiting, Decided}
+use Rattle.event.specs.declared.entry.Station.{Station}
 use Rattle.settlement.specs.declared.record.Settlement.{Settlement}
-use Rattle.settlement.specs.Record.{stationEntries, entry}
-use Rattle.settlement.specs.Fault.{in-round, on-finish, past-waiting, station-fault, fault}
+use Rattle.event.specs.Entries.{stationEntries}
+use Rattle.settlement.specs.Record.{entry}
+use Rattle.event.specs.Stages.{in-round, on-finish, past-waiting}
+use Rattle.settlement.specs.Fault.{station-fault, fault}
 use Rattle.settlement.specs.Link.{rule-number, stage-of}
 use Rattle.settlement.proofs.Link.Linked.{Linked}
-
-pub none-below : (n : ℕ) (f : ℕ → Bool) → ((i : ℕ) → i < n → f i ≡ false) → any-below n f ≡ false
-none-below n f g = by-bool (any-below n f) (λ e. let t = any-found n f e in no-clash (f (t .0)) (t .2) (g (t .0) (t .1))) (λ e. e)
 
 -- the rounds of each stage, by rule
 abbrev Rounds : Rule → ℕ → Stage → ℕ → Type 0

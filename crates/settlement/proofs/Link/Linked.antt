@@ -12,15 +12,19 @@ use lib.Seq.{getD-set-same, getD-set-other}
 use Rattle.bits.specs.Words.{member}
 use Rattle.consensus.specs.Events.{Opening, Openable}
 use Rattle.consensus.specs.State as play
-use Rattle.consensus.specs.Rules.{any-below, is-bit}
+use Rattle.consensus.specs.Rules.{is-bit}
+use Rattle.basics.specs.Below.{any-below}
 use borrow.Author.Tests.{eqb-true, eqb-false}
-use Rattle.consensus.proofs.Basics.{by-bool, no-clash, any-true, update-ind, update-same, update-other}
-use Rattle.settlement.specs.declared.record.Stage.{Stage}
-use Rattle.settlement.specs.declared.record.Stage.the-variants.{Idle, Waiting, Voting, Awaiting, Seeking, FinishVoting, FinishAwaiting, Decided}
-use Rattle.settlement.specs.declared.record.Station.{Station}
-use Rattle.settlement.specs.declared.record.Ballot.{Ballot}
+use Rattle.consensus.proofs.Basics.{update-ind, update-same, update-other}
+use Rattle.basics.proofs.Bools.{by-bool, no-clash}
+use Rattle.basics.proofs.Below.{any-true}
+use Rattle.event.specs.declared.entry.Stage.{Stage}
+use Rattle.event.specs.declared.entry.Stage.the-variants.{Idle, Waiting, Voting, Awaiting, Seeking, FinishVoting, FinishAwaiting, Decided}
+use Rattle.event.specs.declared.entry.Station.{Station}
+use Rattle.event.specs.declared.entry.Ballot.{Ballot}
 use Rattle.settlement.specs.declared.record.Settlement.{Settlement}
-use Rattle.settlement.specs.Record.{stationEntries, ballotEntries, blank-station, blank-ballot, entry, ballot, with-station, with-ballot, was-cast, casting, answering}
+use Rattle.event.specs.Entries.{stationEntries, ballotEntries, blank-station, blank-ballot, was-cast, casting, answering}
+use Rattle.settlement.specs.Record.{entry, ballot, with-station, with-ballot}
 use Rattle.settlement.specs.Link.{rule-number, stands-at, answer-in, Shows-play}
 
 -- round and word before the first vote

@@ -13,25 +13,28 @@ use Rattle.consensus.specs.Events.{Event, claim, deliver, step, lose, answer, R
 use Rattle.consensus.specs.Events as events
 use Rattle.consensus.specs.State as play
 use Rattle.consensus.specs.Rules as rules
-use Rattle.consensus.specs.Rules.{refuse, finish-ballot, last-refusal, as-bit, bit-ballot-by}
-use Rattle.consensus.proofs.Basics.{by-bool, or-false, not-false→true}
+use Rattle.consensus.specs.Rules.{finish-ballot, last-refusal, as-bit, bit-ballot-by}
+use Rattle.basics.specs.Tests.{refuse, first-met}
+use Rattle.basics.proofs.Bools.{by-bool, or-false, not-false→true}
+use Rattle.basics.proofs.Refusals.{refuse-both}
 use Rattle.consensus.proofs.Invariant.{Stage-ok, Inv}
 use Rattle.consensus.proofs.Ballots.{Short}
 use Rattle.consensus.proofs.Reached.{station-below}
-use Rattle.settlement.specs.declared.record.Stage.{Stage}
-use Rattle.settlement.specs.declared.record.Stage.the-variants.{Idle, Waiting, Voting, Awaiting, Seeking, FinishVoting, FinishAwaiting, Decided}
-use Rattle.settlement.specs.declared.record.Station.{Station}
-use Rattle.settlement.specs.declared.record.Ballot.{Ballot}
+use Rattle.event.specs.declared.entry.Stage.{Stage}
+use Rattle.event.specs.declared.entry.Stage.the-variants.{Idle, Waiting, Voting, Awaiting, Seeking, FinishVoting, FinishAwaiting, Decided}
+use Rattle.event.specs.declared.entry.Station.{Station}
+use Rattle.event.specs.declared.entry.Ballot.{Ballot}
 use Rattle.settlement.specs.declared.record.Settlement.{Settlement}
-use Rattle.settlement.specs.Record.{ballotEntries, entry, ballot, ballots, bit-ballot, no-station, not-idle, is-decided}
-use Rattle.settlement.specs.Tests.{first-met, must-wait, takes-last-no, last-ballot, number, event-tests}
+use Rattle.event.specs.Entries.{ballotEntries, ballots, bit-ballot, no-station}
+use Rattle.event.specs.Stages.{at, not-idle, is-decided}
+use Rattle.event.specs.Places.{step-ballot}
+use Rattle.event.specs.Tests.{last-ballot}
+use Rattle.event.specs.Change.{number-on}
+use Rattle.settlement.specs.Record.{entry, ballot, view}
+use Rattle.settlement.specs.Events.{number}
 use Rattle.settlement.specs.Link.{rule-number, stage-of, answer-in}
 use Rattle.settlement.proofs.Link.Linked.{Linked}
 use Rattle.settlement.proofs.Link.Faultless.{faultless}
-
--- the same test, and then the same rest
-refuse-both : (t t' : Bool) (m x y : ℕ) → t ≡ t' → (t' ≡ false → x ≡ y) → refuse t m x ≡ refuse t' m y
-refuse-both t t' m x y e f = ap (λ (b : Bool). refuse b m x) e ∙ by-bool t' (λ p. ap₂ (λ (b c : Bool). refuse b m x) p p ∙ sym (ap (λ (b : Bool). refuse b m y) p)) (λ p. ap (λ (b : Bool). refuse b m x) p ∙ f p ∙ sym (ap (λ (b : Bool). refuse b m y) p))
 
 pub not-idle-same : (g : Stage) (j k d v : ℕ) → not-idle g ≡ play.not-idle (stage-of g j k d v)
 not-idle-same Idle j k d v = refl
@@ -42,6 +45,10 @@ not-idle-same Seeking j k d v = refl
 not-idle-same FinishVoting j k d v = refl
 not-idle-same FinishAwaiting j k d v = refl
 not-idle-same Decided j k d v = refl
+
+or-none : (b : Bool) → (b || false) ≡ b
+or-none true = refl
+or-none false = refl
 
 pub answered-same : (t : Ballot) (x : Option Bool) → answer-in t ≡ x → t .answered ≡ play.answered x
 answered-same t x e = by-bool (t .answered) (λ p. p ∙ ap play.answered (sym (ap (λ (b : Bool). cond b (some (t .answer)) none) p) ∙ e)) (λ p. p ∙ ap play.answered (sym (ap (λ (b : Bool). cond b (some (t .answer)) none) p) ∙ e))
@@ -59,17 +66,17 @@ ballots-same byStation n l = ap (λ (b : Bool). cond b 0 (ceilLog2 n)) (ne-eqb n
 ballots-same byClaim n l = ap (λ (b : Bool). cond b 0 ballotEntries) (ne-eqb n 0 (λ e. omega arith))
 
 module _ (o : Opening) (a : Openable o) (r : Settlement) (st : play.State) (l : Linked o r st) (inv : Inv o st) where
-  pub no-station-same : (s : ℕ) → no-station r s ≡ rules.no-station o s
+  pub no-station-same : (s : ℕ) → no-station (r .count) s ≡ rules.no-station o s
   no-station-same s = ap (λ (n : ℕ). not (ltb s n)) (l .count)
 
   pub idle-same : (s : ℕ) → s < o .count → not-idle (entry r s .stage) ≡ play.claimed st s
   idle-same s b =
       let t = entry r s in not-idle-same (t .stage) (t .cursor) (t .round) (t .word) (t .decision) ∙ ap play.not-idle (l .entries s b .stage)
 
-  pub ballot-of-round : (k : ℕ) → bit-ballot r k ≡ rules.bit-ballot o k
+  pub ballot-of-round : (k : ℕ) → bit-ballot (r .rule) k ≡ rules.bit-ballot o k
   ballot-of-round k = ap (λ (x : ℕ). cond (eqb x 1) k (2 * k)) (l .rule) ∙ bit-ballot-same (o .rule) k
 
-  pub ballots-count : ballots r ≡ events.ballots o
+  pub ballots-count : ballots (r .count) (r .rule) ≡ events.ballots o
   ballots-count =
       ap₂ (λ (n x : ℕ). cond (eqb n 0) 0 (cond (eqb x 1) (ceilLog2 n) ballotEntries)) (l .count) (l .rule)
       ∙ ballots-same (o .rule) (o .count) (a .some-station)
@@ -77,7 +84,7 @@ module _ (o : Opening) (a : Openable o) (r : Settlement) (st : play.State) (l : 
   pub ballot-answered : (b : ℕ) → ballot r b .answered ≡ play.answered (st .answer-of b)
   ballot-answered b = answered-same (ballot r b) (st .answer-of b) (l .answer b)
 
-  round-answered : (k : ℕ) → not (ballot r (bit-ballot r k) .answered) ≡ not (play.answered (st .answer-of (rules.bit-ballot o k)))
+  round-answered : (k : ℕ) → not (ballot r (bit-ballot (r .rule) k) .answered) ≡ not (play.answered (st .answer-of (rules.bit-ballot o k)))
   round-answered k =
       ap (λ (b : ℕ). not (ballot r b .answered)) (ballot-of-round k) ∙ ap (λ (x : Bool). not x) (ballot-answered (rules.bit-ballot o k))
 
@@ -100,16 +107,24 @@ module _ (o : Opening) (a : Openable o) (r : Settlement) (st : play.State) (l : 
       go true x = ap (λ (y : Option Bool). last-refusal o y (finish-ballot k)) (sym x)
       go false x = ap (λ (b : Bool). refuse b 42 0) last ∙ ap (λ (y : Option Bool). last-refusal o y (finish-ballot k)) (sym x)
 
-  abbrev Rest : ℕ → Station → Stage → ℕ
-  Rest s t g = refuse (not (not-idle g)) 6 (refuse (is-decided g) 7 (refuse (must-wait r s t g) 8 (refuse (takes-last-no r t g) 42 0)))
+  -- what STEP looks at, and what it is refused for, at each stage
+  abbrev seen-at : ℕ → Stage → Ballot
+  seen-at k g = ballot r (step-ballot (r .rule) k g)
 
-  -- what STEP is refused for at each stage
+  abbrev Rest : ℕ → Station → Stage → ℕ
+  Rest s t g =
+      refuse (not (not-idle g)) 6
+      (refuse (is-decided g) 7
+      (refuse
+      (at Waiting g && not (member s (t .held)) || (at Awaiting g || at FinishAwaiting g) && not (seen-at (t .round) g .answered)) 8
+      (refuse (at FinishAwaiting g && not (seen-at (t .round) g .answer) && eqb (finish-ballot (t .round)) last-ballot) 42 0)))
+
   stage-same : (s : ℕ) (t : Station) → member s (t .held) ≡ st .station s .holds s → (g : Stage)
       → Stage-ok o st (stage-of g (t .cursor) (t .round) (t .word) (t .decision)) (st .station s .holds) (st .station s .cast)
       → Rest s t g ≡ rules.stage-number o st s (stage-of g (t .cursor) (t .round) (t .word) (t .decision))
-  unfolding must-wait takes-last-no rules.stage-number
+  unfolding rules.stage-number
   stage-same s t own Idle x = refl
-  stage-same s t own Waiting x = ap (λ (b : Bool). refuse (not b) 8 0) own
+  stage-same s t own Waiting x = rw (own, or-none (not (st .station s .holds s)))
   stage-same s t own Voting x = refl
   stage-same s t own Awaiting x = ap (λ (b : Bool). refuse b 8 0) (round-answered (t .round))
   stage-same s t own Seeking x = refl
@@ -117,7 +132,7 @@ module _ (o : Opening) (a : Openable o) (r : Settlement) (st : play.State) (l : 
   stage-same s t own FinishAwaiting x = refuse-both _ _ _ _ _ (finish-answered (t .round)) (λ e. last-same (x .0) (t .round) e)
   stage-same s t own Decided x = refl
 
-  event-same : (e : Event) → first-met (event-tests r e) ≡ rules.number o st e
+  event-same : (e : Event) → number-on (view r e) e ≡ rules.number o st e
   unfolding first-met rules.number
   event-same (claim s v) =
       refuse-both _ _ _ _ _ (no-station-same s)
@@ -151,4 +166,4 @@ module _ (o : Opening) (a : Openable o) (r : Settlement) (st : play.State) (l : 
 
   pub number-same : Short o st → (e : Event) → number r e ≡ rules.number o st e
   unfolding number first-met
-  number-same short e = ap (λ (b : Bool). refuse b 42 (first-met (event-tests r e))) (faultless o a r st l inv short) ∙ event-same e
+  number-same short e = ap (λ (b : Bool). refuse b 42 (number-on (view r e) e)) (faultless o a r st l inv short) ∙ event-same e

@@ -4,7 +4,7 @@ use mathlib.Core.Path.{_≡_, refl, ap, _∙_}
 use native.Mathlib.Omega.{arith}
 use native.Mathlib.Numerals.{add-one}
 use borrow.Author.Needs.{needs}
-use Rattle.consensus.specs.Rules.{any-below}
+use Rattle.basics.specs.Below.{any-below}
 use Rattle.settlement.specs.Fault.{fault-at}
 use Rattle.settlement.proofs.fault.some_station_faulty.Statement.{statement}
 use Rattle.settlement.proofs.fault.some_station_faulty.Tie as tie
@@ -19,8 +19,14 @@ loop-holds : tie.Need-loop-holds Inv-loop μ-loop
 unfolding any-below
 loop-holds c = (search needs, refl)
 
-station-at-requires : tie.Need-station-at-requires Inv-loop μ-loop
-station-at-requires c κs = search needs
+cast-i : tie.Need-cast-i Inv-loop μ-loop
+cast-i c = search needs
+
+mul-station-faulty : tie.Need-mul-station-faulty Inv-loop μ-loop
+mul-station-faulty c = search needs
+
+element-copy-out-station-faulty : tie.Need-element-copy-out-station-faulty Inv-loop μ-loop
+element-copy-out-station-faulty c = omega arith
 
 station-faulty-requires : tie.Need-station-faulty-requires Inv-loop μ-loop
 station-faulty-requires c κs = search needs
@@ -34,15 +40,15 @@ loop-less c = omega arith
 loop-again : tie.Need-loop-again Inv-loop μ-loop
 unfolding any-below
 loop-again c =
-    let found = c .before .before .before .before .loop .inv .1 in
-    (omega arith, rw (add-one, c .station-faulty .ensures, c .before .station-at .ensures, found))
+    let found = c .before .before .before .loop .inv .1 in
+    (omega arith, rw (add-one, c .station-faulty .ensures, found))
 
 returns : tie.Need-returns Inv-loop μ-loop
 returns c =
-    let s = c .before .before .loop .s in
-    let r = c .before .before .before .args .r in
+    let s = c .before .loop .s in
+    let r = c .before .before .args .t1 in
     let e : s ≡ r .count = omega arith in
-    c .before .before .loop .inv .1 ∙ ap (λ (i : ℕ). any-below i (fault-at r)) e
+    c .before .loop .inv .1 ∙ ap (λ (i : ℕ). any-below i (fault-at r)) e
 
 pub some-station-faulty-spec : {M : Type 1} → statement M
 some-station-faulty-spec =
@@ -51,7 +57,9 @@ some-station-faulty-spec =
     Inv-loop
     μ-loop
     loop-holds
-    station-at-requires
+    cast-i
+    mul-station-faulty
+    element-copy-out-station-faulty
     station-faulty-requires
     add-s
     loop-less

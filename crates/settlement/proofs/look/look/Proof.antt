@@ -1,9 +1,10 @@
--- `settlement::look::look`: a LOOK that is not refused meets what `votes` relies on. Assumes nothing.
+-- `settlement::look::look`: a LOOK that is not refused is of a station inside the array, whose votes fit a byte. Assumes nothing.
 use mathlib.Core.Path.{sym, _∙_}
 use borrow.Author.Tests.{ne-eqb}
-use borrow.Author.Needs.{needs}
 use Rattle.settlement.specs.Look.{looked}
+use Rattle.settlement.proofs.Places.{look-place}
 use Rattle.settlement.proofs.Votes.{few-votes}
+use borrow.Author.Needs.{needs}
 use Rattle.settlement.proofs.look.look.Statement.{statement}
 use Rattle.settlement.proofs.look.look.Tie as tie
 
@@ -14,39 +15,30 @@ returns : tie.Need-returns
 unfolding looked
 returns c = rw (← c .before .look-number .ensures, ne-eqb _ 0 (c .if1 .taken))
 
-station-at-requires : tie.Need-station-at-requires
-station-at-requires c κs = search needs
+station-place-requires : tie.Need-station-place-requires
+station-place-requires c κs = search needs
+
+mul-t : tie.Need-mul-t
+mul-t c = search needs
+
+element-copy-out-t : tie.Need-element-copy-out-t
+element-copy-out-t c = search needs
 
 is-decided-requires : tie.Need-is-decided-requires
 is-decided-requires c κs = search needs
 
-shown-requires : tie.Need-shown-requires
-shown-requires c κs = search needs
+shown-claim-requires : tie.Need-shown-claim-requires
+shown-claim-requires c κs = search needs
 
 votes-requires : tie.Need-votes-requires
 votes-requires c κs = search needs
 
-cast-t10 : tie.Need-cast-t10
-cast-t10 c =
-    let a = c .before .before .before .before .before .before .args in
-    record {
-      fits = rw (
-        c .votes .ensures,
-        c .before .before .before .station-at .ensures,
-      ) (few-votes (a .r) (a .s) (sym (c .before .before .before .before .before .look-number .ensures) ∙ c .before .before .before .before .if1 .left));
-    }
+cast-t17 : tie.Need-cast-t17
+cast-t17 c = let a = c .before .before .before .before .before .before .before .args in let z = sym (c .before .before .before .before .before .before .look-number .ensures) ∙ c .before .before .before .before .before .if1 .left in record { fits = rw (c .votes .ensures, c .before .before .before .before .station-place .ensures .place, look-place (a .t1) (a .s) z) (few-votes (a .t1) (a .s) z) }
 
 returns-2 : tie.Need-returns-2
 unfolding looked
-returns-2 c =
-    rw (
-      ← c .before .before .before .before .before .look-number .ensures,
-      c .before .before .before .before .if1 .left,
-      c .votes .ensures,
-      c .before .shown .ensures,
-      c .before .before .is-decided .ensures,
-      c .before .before .before .station-at .ensures,
-    )
+returns-2 c = let a = c .before .before .before .before .before .before .before .args in rw (← c .before .before .before .before .before .before .look-number .ensures, c .before .before .before .before .before .if1 .left, c .votes .ensures, c .before .shown-claim .ensures, c .before .before .is-decided .ensures, c .before .before .before .before .station-place .ensures .place, look-place (a .t1) (a .s) (sym (c .before .before .before .before .before .before .look-number .ensures) ∙ c .before .before .before .before .before .if1 .left))
 
 pub look-spec : {M : Type 1} → statement M
 look-spec =
@@ -54,9 +46,11 @@ look-spec =
     (tie.spec
     look-number-requires
     returns
-    station-at-requires
+    station-place-requires
+    mul-t
+    element-copy-out-t
     is-decided-requires
-    shown-requires
+    shown-claim-requires
     votes-requires
-    cast-t10
+    cast-t17
     returns-2)

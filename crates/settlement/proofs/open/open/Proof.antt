@@ -1,6 +1,8 @@
--- `settlement::open::open`: each call gives a part of the definition, and together they are the whole. Assumes nothing.
+-- `settlement::open::open`: refused, it is blank; else the number is 0. Assumes nothing.
+use Rattle.settlement.specs.Events.{fresh, blank, opened}
+use Rattle.settlement.proofs.Refusals.{refused-outcome, accepted-outcome}
+use mathlib.Core.Path.{sym}
 use borrow.Author.Needs.{needs}
-use Rattle.settlement.specs.Events.{opened}
 use Rattle.settlement.proofs.open.open.Statement.{statement}
 use Rattle.settlement.proofs.open.open.Tie as tie
 
@@ -10,18 +12,17 @@ open-number-requires c κs = search needs
 fresh-requires : tie.Need-fresh-requires
 fresh-requires c κs = search needs
 
+returns : tie.Need-returns
+unfolding opened
+returns c = rw (c .fresh .ensures, ← c .before .before .open-number .ensures) (sym (refused-outcome _ (fresh (c .before .before .before .args .n) (c .before .before .before .args .rule)) blank (c .before .if1 .taken)))
+
 fresh-requires-2 : tie.Need-fresh-requires-2
 fresh-requires-2 c κs = search needs
 
-joined-requires : tie.Need-joined-requires
-joined-requires c κs = search needs
-
-returns : tie.Need-returns
+returns-2 : tie.Need-returns-2
 unfolding opened
-returns c =
-    rw (c .joined .ensures, c .before .fresh2 .ensures, c .before .before .fresh .ensures, c .before .before .before .open-number .ensures)
+returns-2 c = rw (c .fresh2 .ensures, ← c .before .before .open-number .ensures) (sym (accepted-outcome _ (fresh (c .before .before .before .args .n) (c .before .before .before .args .rule)) blank (c .before .if1 .left)))
 
 pub open-spec : {M : Type 1} → statement M
 open-spec =
-    tie.close
-    (tie.spec open-number-requires fresh-requires fresh-requires-2 joined-requires returns)
+    tie.close (tie.spec open-number-requires fresh-requires returns fresh-requires-2 returns-2)

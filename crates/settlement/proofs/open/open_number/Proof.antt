@@ -1,6 +1,6 @@
 -- `settlement::open::open_number`: each `refuse` is one test of the list, and they nest in the list's order. Assumes nothing.
 use borrow.Author.Needs.{needs}
-use Rattle.settlement.specs.Tests.{first-met}
+use Rattle.basics.specs.Tests.{first-met}
 use Rattle.settlement.proofs.open.open_number.Statement.{statement}
 use Rattle.settlement.proofs.open.open_number.Tie as tie
 

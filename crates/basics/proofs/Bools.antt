@@ -1,0 +1,26 @@
+-- Case splits that keep their equation, and tests joined by "and", "or" and "not". Assumes nothing.
+use mathlib.Core.Path.{_≡_, refl, sym, _∙_}
+use mathlib.Core.Bool.{Bool, true, false, cond, not, _&&_, _||_, true≢false}
+
+unfoldable pub by-bool {ℓ} : {C : Type ℓ} (b : Bool) → (b ≡ true → C) → (b ≡ false → C) → C
+by-bool true f g = f refl
+by-bool false f g = g refl
+
+pub cond-ind {ℓ} : {A : Type 0} (C : A → Type ℓ) (b : Bool) (x y : A) → (b ≡ true → C x) → (b ≡ false → C y) → C (cond b x y)
+cond-ind C true x y f g = f refl
+cond-ind C false x y f g = g refl
+
+pub no-clash : {C : Type 0} (b : Bool) → b ≡ true → b ≡ false → C
+no-clash b p q = absurd (true≢false (sym p ∙ q))
+
+pub not-false→true : (b : Bool) → not b ≡ false → b ≡ true
+not-false→true true e = refl
+not-false→true false e = sym e
+
+pub and-true : (a b : Bool) → (a && b) ≡ true → (a ≡ true) × (b ≡ true)
+and-true true b e = (refl, e)
+and-true false b e = absurd (true≢false (sym e))
+
+pub or-false : (a b : Bool) → (a || b) ≡ false → (a ≡ false) × (b ≡ false)
+or-false true b e = absurd (true≢false e)
+or-false false b e = (refl, e)

@@ -1,0 +1,9 @@
+-- Laws that belong to no one function.
+--     Bools     case splits that keep their equation; tests joined by "and", "or", "not"
+--     Refusals  chains of refusals taken apart
+--     Below     what is found below n, and what is not
+--     Lists     entries past an array; an entry stored again
+pub mod Bools
+pub mod Refusals
+pub mod Below
+pub mod Lists

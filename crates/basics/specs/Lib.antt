@@ -1,0 +1,5 @@
+-- What several crates speak of, and none of them owns.
+--     Tests     an operation's tests in order, each with its number
+--     Below     some number below n passes a test
+pub mod Tests
+pub mod Below
