@@ -7,6 +7,7 @@
 --     Tests     what each event is turned away for, in order
 --     Step      what one STEP does
 --     Change    the five events, whole
+--     Examples  worked rows, with literal numbers
 pub mod Stages
 pub mod Entries
 pub mod Meant
@@ -14,3 +15,4 @@ pub mod Places
 pub mod Tests
 pub mod Step
 pub mod Change
+pub mod Examples

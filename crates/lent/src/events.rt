@@ -4,12 +4,12 @@ ghost use Rattle.consensus.specs.Events.{claim, deliver, step, lose, answer};
 ghost use Rattle.settlement.specs.Events.{played};
 ghost use Rattle.lent.specs.Lent.{leaving};
 use bits::word::Word;
-use settlement::answer::answer;
-use settlement::claim::claim;
-use settlement::deliver::deliver;
-use settlement::lose::lose;
+use settlement::events::answer;
+use settlement::events::claim;
+use settlement::events::deliver;
+use settlement::events::lose;
+use settlement::events::step;
 use settlement::record::Settlement;
-use settlement::step::step;
 
 // CLAIM s, v.
 pub fn claim_lent(r: &mut Settlement, s: u8, v: Word) -> u8

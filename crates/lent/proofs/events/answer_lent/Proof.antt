@@ -4,8 +4,8 @@ use mathlib.Core.List.{[], _∷_}
 use mir.Syntax.{w8}
 use Rattle.consensus.specs.Events.{answer}
 use Rattle.settlement.specs.Events.{played}
-use Rattle.settlement.proofs.answer.answer.Symbol as callee
-use Rattle.settlement.proofs.answer.answer.Met.{met}
+use Rattle.settlement.proofs.events.answer.Symbol as callee
+use Rattle.settlement.proofs.events.answer.Met.{met}
 use Rattle.lent.proofs.Stored.{end}
 use Rattle.lent.proofs.Lent.{proved}
 use Rattle.lent.proofs.events.answer_lent.Key.{name}
@@ -16,4 +16,4 @@ pub answer-lent-spec : {M : Type 1} → statement M
 unfolding code.routine
 answer-lent-spec 𝓤 H 𝓜 𝓖 𝓡 =
     proved (w8 ∷ w8 ∷ []) callee.name (λ r ns. played r (answer (ns .0) (ns .1 .0))) 𝓤 H 𝓜 𝓖 𝓡
-    name code.env (code.unfolded 𝓤 H 𝓜 𝓡) (search end) (λ h ns. refl) callee.routine code.calls-settlement·answer·answer (met 𝓤 H 𝓜 𝓖 𝓡)
+    name code.env (code.unfolded 𝓤 H 𝓜 𝓡) (search end) (λ h ns. refl) callee.routine code.calls-settlement·events·answer (met 𝓤 H 𝓜 𝓖 𝓡)

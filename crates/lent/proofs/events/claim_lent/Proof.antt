@@ -4,8 +4,8 @@ use mathlib.Core.List.{[], _∷_}
 use mir.Syntax.{w8, w32}
 use Rattle.consensus.specs.Events.{claim}
 use Rattle.settlement.specs.Events.{played}
-use Rattle.settlement.proofs.claim.claim.Symbol as callee
-use Rattle.settlement.proofs.claim.claim.Met.{met}
+use Rattle.settlement.proofs.events.claim.Symbol as callee
+use Rattle.settlement.proofs.events.claim.Met.{met}
 use Rattle.lent.proofs.Stored.{end}
 use Rattle.lent.proofs.Lent.{proved}
 use Rattle.lent.proofs.events.claim_lent.Key.{name}
@@ -16,4 +16,4 @@ pub claim-lent-spec : {M : Type 1} → statement M
 unfolding code.routine
 claim-lent-spec 𝓤 H 𝓜 𝓖 𝓡 =
     proved (w8 ∷ w32 ∷ []) callee.name (λ r ns. played r (claim (ns .0) (ns .1 .0))) 𝓤 H 𝓜 𝓖 𝓡
-    name code.env (code.unfolded 𝓤 H 𝓜 𝓡) (search end) (λ h ns. refl) callee.routine code.calls-settlement·claim·claim (met 𝓤 H 𝓜 𝓖 𝓡)
+    name code.env (code.unfolded 𝓤 H 𝓜 𝓡) (search end) (λ h ns. refl) callee.routine code.calls-settlement·events·claim (met 𝓤 H 𝓜 𝓖 𝓡)

@@ -4,8 +4,8 @@ use mathlib.Core.List.{[], _∷_}
 use mir.Syntax.{w8}
 use Rattle.consensus.specs.Events.{deliver}
 use Rattle.settlement.specs.Events.{played}
-use Rattle.settlement.proofs.deliver.deliver.Symbol as callee
-use Rattle.settlement.proofs.deliver.deliver.Met.{met}
+use Rattle.settlement.proofs.events.deliver.Symbol as callee
+use Rattle.settlement.proofs.events.deliver.Met.{met}
 use Rattle.lent.proofs.Stored.{end}
 use Rattle.lent.proofs.Lent.{proved}
 use Rattle.lent.proofs.events.deliver_lent.Key.{name}
@@ -16,4 +16,4 @@ pub deliver-lent-spec : {M : Type 1} → statement M
 unfolding code.routine
 deliver-lent-spec 𝓤 H 𝓜 𝓖 𝓡 =
     proved (w8 ∷ w8 ∷ []) callee.name (λ r ns. played r (deliver (ns .0) (ns .1 .0))) 𝓤 H 𝓜 𝓖 𝓡
-    name code.env (code.unfolded 𝓤 H 𝓜 𝓡) (search end) (λ h ns. refl) callee.routine code.calls-settlement·deliver·deliver (met 𝓤 H 𝓜 𝓖 𝓡)
+    name code.env (code.unfolded 𝓤 H 𝓜 𝓡) (search end) (λ h ns. refl) callee.routine code.calls-settlement·events·deliver (met 𝓤 H 𝓜 𝓖 𝓡)
