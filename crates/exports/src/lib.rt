@@ -1,20 +1,20 @@
 // The functions that other languages call: numbers and byte slices only.
 ghost use mathlib.Core.Path.{_≡_};
-ghost use Rattle.log.specs.Read.{found, number-of, taken-of};
+ghost use Rattle.field.specs.Read.{found, number-of, taken-of};
 ghost use Rattle.log.specs.Run.{ran};
-ghost use Rattle.log.specs.Table.{row-with};
+ghost use Rattle.field.specs.Table.{row-with};
 ghost use Rattle.exports.specs.Exports.{asked, put-answer, put-after};
 ghost use Rattle.report.specs.Report.{report};
 ghost use Rattle.report.specs.Written.{Printed};
 use bits::word::Word;
-use log::field::Field;
-use log::put::put;
-use log::read::Reading;
-use log::read::read;
+use field::field::Field;
+use field::put::put;
+use field::read::Reading;
+use field::read::read;
+use field::table::Kind;
+use field::table::Known;
+use field::table::row_with;
 use log::run::run;
-use log::table::Kind;
-use log::table::Known;
-use log::table::row_with;
 use report::report::report;
 use settlement::record::Event;
 

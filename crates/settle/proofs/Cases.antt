@@ -12,9 +12,9 @@ use Rattle.settlement.specs.Events.{outcome, opened, effect, played}
 use Rattle.settlement.specs.Look.{votes, looked}
 use Rattle.settlement.specs.Link.{record-after}
 use Rattle.bits.specs.Examples.{every}
-use Rattle.log.specs.Table.{row-with, row-of}
-use Rattle.log.specs.Field.{length-said, claim-said, field-said, bytes}
-use Rattle.log.specs.Read.{found-in, found-by, found as found-field}
+use Rattle.field.specs.Table.{row-with, row-of}
+use Rattle.field.specs.Field.{length-said, claim-said, field-said, bytes}
+use Rattle.field.specs.Read.{found-in, found-by, found as found-field}
 use Rattle.log.specs.Run.{by-outcome, by-field, by-reading, turn, onwards, by-open, by-first, ran}
 use Rattle.report.specs.Decimal.{digits, decimal}
 use Rattle.report.specs.Text.{settlement-part, run-part, first-line, stage-word, decision-shown, presence, stage-part, standing-part, station-line, station-lines, text}
