@@ -8,9 +8,8 @@ ghost use Rattle.report.specs.Report.{report};
 ghost use Rattle.report.specs.Written.{Printed};
 use bits::word::Word;
 use field::field::Field;
+use field::head::head_of;
 use field::put::put;
-use field::read::Reading;
-use field::read::read;
 use field::table::Kind;
 use field::table::Known;
 use field::table::row_with;
@@ -50,25 +49,21 @@ pub extern "C" fn dagmuize_taken(log: &[u8], limit: usize) -> usize
     played.taken
 }
 
-// READ's number and the bytes that it takes.
+// READ's number and the bytes that it takes: its head has both.
 #[no_mangle]
 pub extern "C" fn dagmuize_read_number(log: &[u8]) -> u8
     ensures { λ x. ⌜ x ≡ number-of (found (now (log .entry))) ⌝ }
 {
-    match read(log) {
-        Reading::Found { field: _, taken: _ } => 0,
-        Reading::Refused { number } => number,
-    }
+    let head = head_of(log);
+    head.number
 }
 
 #[no_mangle]
 pub extern "C" fn dagmuize_read_taken(log: &[u8]) -> usize
     ensures { λ x. ⌜ x ≡ taken-of (found (now (log .entry))) ⌝ }
 {
-    match read(log) {
-        Reading::Found { field: _, taken } => taken,
-        Reading::Refused { number: _ } => 0,
-    }
+    let head = head_of(log);
+    head.taken
 }
 
 // The field of a kind, with the numbers that it asks for.
