@@ -9,14 +9,13 @@ use lib.Dec.{eqb}
 use lib.ListN.{length}
 use Rattle.basics.specs.Tests.{refuse}
 use Rattle.event.specs.declared.event.Event.the-variants.{Claim, Deliver, Step, Lose, Answer}
-use Rattle.log.specs.declared.field.Field.{Field}
-use Rattle.log.specs.declared.field.Field.the-variants.{Opening, Event, Note}
-use Rattle.log.specs.Table.{row-of}
-use Rattle.log.specs.Field.{bytes}
-use Rattle.log.specs.Put.{too-long, no-room, put-number, put-count}
+use Rattle.field.specs.declared.field.Field.{Field}
+use Rattle.field.specs.declared.field.Field.the-variants.{Opening, Event, Note}
+use Rattle.field.specs.Field.{bytes}
+use Rattle.field.specs.Put.{too-long, no-room, put-number, put-count}
 
 short : (f : Field) (note : List ℕ) → too-long f note ≡ false → length (bytes f note) ≤ 67
-unfolding bytes row-of
+unfolding bytes
 short (Opening n rule) note e = omega arith
 short (Event (Claim s v)) note e = omega arith
 short (Event (Deliver t s)) note e = omega arith

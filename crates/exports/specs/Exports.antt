@@ -2,13 +2,13 @@
 use Prim.Native.Nat.{ℕ, _+_, _*_}
 use mathlib.Core.List.{List}
 use Rattle.event.specs.declared.event.Event.the-variants.{Claim, Deliver, Step, Lose, Answer}
-use Rattle.log.specs.declared.table.Kind as declared-kind
-use Rattle.log.specs.declared.table.Kind.the-variants as kind
-use Rattle.log.specs.declared.table.Known.{Known}
-use Rattle.log.specs.declared.table.Known.the-variants.{Row, Unknown}
-use Rattle.log.specs.declared.field.Field.{Field}
-use Rattle.log.specs.declared.field.Field.the-variants.{Opening, Event, Note}
-use Rattle.log.specs.Put.{put-number, put-count, put-buffer}
+use Rattle.field.specs.declared.table.Kind as declared-kind
+use Rattle.field.specs.declared.table.Kind.the-variants as kind
+use Rattle.field.specs.declared.table.Known.{Known}
+use Rattle.field.specs.declared.table.Known.the-variants.{Row, Unknown}
+use Rattle.field.specs.declared.field.Field.{Field}
+use Rattle.field.specs.declared.field.Field.the-variants.{Opening, Event, Note}
+use Rattle.field.specs.Put.{put-number, put-count, put-buffer}
 
 -- The field of a kind: x and y are its one-byte numbers in the table's order, v is a claim. What the kind does not have says nothing.
 unfoldable pub asked : declared-kind.Kind → (x y v : ℕ) → Field

@@ -1,21 +1,20 @@
 // The functions that other languages call: numbers and byte slices only.
 ghost use mathlib.Core.Path.{_≡_};
-ghost use Rattle.log.specs.Read.{found, number-of, taken-of};
+ghost use Rattle.field.specs.Read.{found, number-of, taken-of};
 ghost use Rattle.log.specs.Run.{ran};
-ghost use Rattle.log.specs.Table.{row-with};
+ghost use Rattle.field.specs.Table.{row-with};
 ghost use Rattle.exports.specs.Exports.{asked, put-answer, put-after};
 ghost use Rattle.report.specs.Report.{report};
 ghost use Rattle.report.specs.Written.{Printed};
 use bits::word::Word;
 use event::event::Event;
-use log::field::Field;
-use log::put::put;
-use log::read::Reading;
-use log::read::read;
+use field::field::Field;
+use field::head::head_of;
+use field::put::put;
+use field::table::Kind;
+use field::table::Known;
+use field::table::row_with;
 use log::run::run;
-use log::table::Kind;
-use log::table::Known;
-use log::table::row_with;
 use report::report::report;
 
 #[no_mangle]
@@ -50,25 +49,21 @@ pub extern "C" fn dagmuize_taken(log: &[u8], limit: usize) -> usize
     played.taken
 }
 
-// READ's number and the bytes that it takes.
+// READ's number and the bytes that it takes: its head has both.
 #[no_mangle]
 pub extern "C" fn dagmuize_read_number(log: &[u8]) -> u8
     ensures { λ x. ⌜ x ≡ number-of (found (now (log .entry))) ⌝ }
 {
-    match read(log) {
-        Reading::Found { field: _, taken: _ } => 0,
-        Reading::Refused { number } => number,
-    }
+    let head = head_of(log);
+    head.number
 }
 
 #[no_mangle]
 pub extern "C" fn dagmuize_read_taken(log: &[u8]) -> usize
     ensures { λ x. ⌜ x ≡ taken-of (found (now (log .entry))) ⌝ }
 {
-    match read(log) {
-        Reading::Found { field: _, taken } => taken,
-        Reading::Refused { number: _ } => 0,
-    }
+    let head = head_of(log);
+    head.taken
 }
 
 // The field of a kind, with the numbers that it asks for.

@@ -13,9 +13,9 @@ use Rattle.event.specs.Step.{started, voted, bit-taken, finish-taken, found, so
 use Rattle.settlement.specs.Look.{votes, looked}
 use Rattle.settlement.specs.Link.{record-after}
 use Rattle.bits.specs.Examples.{every}
-use Rattle.log.specs.Table.{row-with, row-of}
-use Rattle.log.specs.Field.{length-said, claim-said, field-said, bytes}
-use Rattle.log.specs.Read.{found-in, found-by, found as found-field}
+use Rattle.field.specs.Table.{row-with}
+use Rattle.field.specs.Field.{length-said, claim-said, field-said, bytes}
+use Rattle.field.specs.Read.{found-in, found-by, found as found-field}
 use Rattle.log.specs.Run.{by-outcome, by-field, by-reading, turn, onwards, by-open, by-first, ran}
 use Rattle.report.specs.Decimal.{digits, decimal}
 use Rattle.report.specs.Text.{settlement-part, run-part, first-line, stage-word, decision-shown, presence, stage-part, standing-part, station-line, station-lines, text}
@@ -23,5 +23,5 @@ use Rattle.report.specs.Report.{report}
 use Rattle.settle.specs.Cases.{right, starred}
 
 pub starred-right : every right starred ≡ true
-unfolding bit binaryDigits digitsIn withBit lowAgree wordWithBit member insert ceilLog2 leastFrom any-below station-fault fault first-met must-wait takes-last-no number started voted bit-taken finish-taken found sought stepped outcome opened effect played votes looked record-after row-with row-of length-said claim-said field-said bytes found-in found-by found-field by-outcome by-field by-reading turn onwards by-open by-first ran digits decimal settlement-part run-part first-line stage-word decision-shown presence stage-part standing-part station-line station-lines text report
+unfolding bit binaryDigits digitsIn withBit lowAgree wordWithBit member insert ceilLog2 leastFrom any-below station-fault fault first-met must-wait takes-last-no number started voted bit-taken finish-taken found sought stepped outcome opened effect played votes looked record-after row-with length-said claim-said field-said bytes found-in found-by found-field by-outcome by-field by-reading turn onwards by-open by-first ran digits decimal settlement-part run-part first-line stage-word decision-shown presence stage-part standing-part station-line station-lines text report
 starred-right = refl
