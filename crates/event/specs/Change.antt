@@ -4,11 +4,11 @@ use Prim.Native.Nat.{ℕ}
 use Rattle.basics.specs.Tests.{first-met}
 use Rattle.consensus.specs.Events.{Event, claim, deliver, step, lose, answer}
 use Rattle.consensus.specs.Rules.{as-bit}
-use Rattle.event.specs.declared.entry.Station.{Station}
-use Rattle.event.specs.declared.entry.Ballot.{Ballot}
-use Rattle.event.specs.declared.entry.View.{View}
+use Rattle.entry.specs.declared.entry.Station.{Station}
+use Rattle.entry.specs.declared.entry.Ballot.{Ballot}
+use Rattle.event.specs.declared.view.View.{View}
 use Rattle.event.specs.declared.change.Change.{Change}
-use Rattle.event.specs.Entries.{claiming, holding, losing, answering}
+use Rattle.entry.specs.Entries.{claiming, holding, losing, answering}
 use Rattle.event.specs.Tests.{tests-on}
 use Rattle.event.specs.Step.{stepped, voted}
 

@@ -4,13 +4,13 @@ use mathlib.Core.Bool.{Bool, true, false, _&&_, Bool·beq}
 use mathlib.Core.List.{List, [], _∷_}
 use lib.Dec.{eqb}
 use Rattle.consensus.specs.Events.{Event, claim, deliver, step, lose, answer}
-use Rattle.event.specs.declared.entry.Stage.{Stage}
-use Rattle.event.specs.declared.entry.Stage.the-variants.{Idle, Waiting, Voting, Awaiting, Seeking, FinishVoting, FinishAwaiting, Decided}
-use Rattle.event.specs.declared.entry.Station.{Station}
-use Rattle.event.specs.declared.entry.Ballot.{Ballot}
-use Rattle.event.specs.declared.entry.View.{View}
-use Rattle.event.specs.Stages.{at}
-use Rattle.event.specs.Entries.{blank-station, blank-ballot}
+use Rattle.entry.specs.declared.entry.Stage.{Stage}
+use Rattle.entry.specs.declared.entry.Stage.the-variants.{Idle, Waiting, Voting, Awaiting, Seeking, FinishVoting, FinishAwaiting, Decided}
+use Rattle.entry.specs.declared.entry.Station.{Station}
+use Rattle.entry.specs.declared.entry.Ballot.{Ballot}
+use Rattle.event.specs.declared.view.View.{View}
+use Rattle.entry.specs.Stages.{at}
+use Rattle.entry.specs.Entries.{blank-station, blank-ballot}
 use Rattle.event.specs.Places.{beside-of, ballot-of}
 use Rattle.event.specs.Change.{number-on, own-after, ballot-after}
 

@@ -1,15 +1,11 @@
 -- What the crate `event` is about, as a reader must believe it: an event looks at two station entries and one ballot entry, and replaces at most one
 -- of each. Every definition speaks of any entries, made-up ones included.
---     Stages    which stage a station is at
---     Entries   what entries say, and how an event changes one
 --     Meant     the crate's enum as an event of the list
 --     Places    where an event looks
 --     Tests     what each event is turned away for, in order
 --     Step      what one STEP does
 --     Change    the five events, whole
 --     Examples  worked rows, with literal numbers
-pub mod Stages
-pub mod Entries
 pub mod Meant
 pub mod Places
 pub mod Tests

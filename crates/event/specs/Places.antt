@@ -6,11 +6,11 @@ use mathlib.Core.Bool.{cond, _||_}
 use lib.Dec.{eqb, ltb}
 use Rattle.consensus.specs.Events.{Event, claim, deliver, step, lose, answer}
 use Rattle.consensus.specs.Rules.{finish-ballot}
-use Rattle.event.specs.declared.entry.Stage.{Stage}
-use Rattle.event.specs.declared.entry.Stage.the-variants.{Voting, Awaiting, Seeking}
-use Rattle.event.specs.declared.entry.Station.{Station}
-use Rattle.event.specs.Stages.{at, on-finish}
-use Rattle.event.specs.Entries.{bit-ballot}
+use Rattle.entry.specs.declared.entry.Stage.{Stage}
+use Rattle.entry.specs.declared.entry.Stage.the-variants.{Voting, Awaiting, Seeking}
+use Rattle.entry.specs.declared.entry.Station.{Station}
+use Rattle.entry.specs.Stages.{at, on-finish}
+use Rattle.entry.specs.Entries.{bit-ballot}
 
 -- the station named; of a DELIVER the receiver
 abbrev pub own-of : Event → ℕ

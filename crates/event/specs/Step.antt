@@ -6,13 +6,13 @@ use lib.Dec.{eqb}
 use Rattle.bits.specs.Digits.{bit}
 use Rattle.bits.specs.Log.{ceilLog2}
 use Rattle.bits.specs.Words.{claimBits, wordWithBit, lowAgree, member}
-use Rattle.event.specs.declared.entry.Stage.{Stage}
-use Rattle.event.specs.declared.entry.Stage.the-variants.{Idle, Waiting, Voting, Awaiting, Seeking, FinishVoting, FinishAwaiting, Decided}
-use Rattle.event.specs.declared.entry.Station.{Station}
-use Rattle.event.specs.declared.entry.Ballot.{Ballot}
-use Rattle.event.specs.declared.entry.View.{View}
-use Rattle.event.specs.Stages.{at}
-use Rattle.event.specs.Entries.{by-station, spelled, moved, casting}
+use Rattle.entry.specs.declared.entry.Stage.{Stage}
+use Rattle.entry.specs.declared.entry.Stage.the-variants.{Idle, Waiting, Voting, Awaiting, Seeking, FinishVoting, FinishAwaiting, Decided}
+use Rattle.entry.specs.declared.entry.Station.{Station}
+use Rattle.entry.specs.declared.entry.Ballot.{Ballot}
+use Rattle.event.specs.declared.view.View.{View}
+use Rattle.entry.specs.Stages.{at}
+use Rattle.entry.specs.Entries.{by-station, spelled, moved, casting}
 use Rattle.event.specs.Places.{next-cursor}
 
 -- "adds 1 to k". A round is a byte; one that passes the record test and is added to is below 32

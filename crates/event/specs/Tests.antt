@@ -8,11 +8,11 @@ use Rattle.basics.specs.Tests.{Test, when}
 use Rattle.bits.specs.Words.{member}
 use Rattle.consensus.specs.Events.{Event, claim, deliver, step, lose, answer}
 use Rattle.consensus.specs.Rules.{finish-ballot, as-bit}
-use Rattle.event.specs.declared.entry.Stage.{Stage}
-use Rattle.event.specs.declared.entry.Stage.the-variants.{Waiting, Awaiting, FinishAwaiting}
-use Rattle.event.specs.declared.entry.View.{View}
-use Rattle.event.specs.Stages.{at, not-idle, is-decided}
-use Rattle.event.specs.Entries.{ballotEntries, no-station, ballots, was-cast}
+use Rattle.entry.specs.declared.entry.Stage.{Stage}
+use Rattle.entry.specs.declared.entry.Stage.the-variants.{Waiting, Awaiting, FinishAwaiting}
+use Rattle.event.specs.declared.view.View.{View}
+use Rattle.entry.specs.Stages.{at, not-idle, is-decided}
+use Rattle.entry.specs.Entries.{ballotEntries, no-station, ballots, was-cast}
 
 abbrev pub claim-tests : View → ℕ → List Test
 claim-tests v s =

@@ -2,13 +2,6 @@
 ghost use mathlib.Core.Path.{_≡_};
 ghost use Rattle.event.specs.Meant.{meant};
 ghost use Rattle.event.specs.Change.{number-on, own-after, ballot-after, change-of};
-use crate::changed::answering;
-use crate::changed::claiming;
-use crate::changed::holding;
-use crate::changed::losing;
-use crate::entry::Ballot;
-use crate::entry::Station;
-use crate::entry::View;
 use crate::event::Event;
 use crate::number::answer_number;
 use crate::number::claim_number;
@@ -17,6 +10,13 @@ use crate::number::lose_number;
 use crate::number::step_number;
 use crate::step::stepped;
 use crate::step::voted;
+use crate::view::View;
+use entry::changed::answering;
+use entry::changed::claiming;
+use entry::changed::holding;
+use entry::changed::losing;
+use entry::entry::Ballot;
+use entry::entry::Station;
 
 // 0 or the number of the refusal; and, where it is 0, the entries to store.
 pub struct Change {

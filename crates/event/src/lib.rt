@@ -2,12 +2,9 @@
 // Every public function is total, and equals a definition of specs/.
 
 pub mod change;
-mod changed;
-pub mod entry;
 pub mod event;
 mod number;
 pub mod place;
-pub mod reading;
 mod seek;
-pub mod stage;
 mod step;
+pub mod view;

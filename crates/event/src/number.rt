@@ -2,18 +2,18 @@
 ghost use mathlib.Core.Path.{_≡_};
 ghost use Rattle.basics.specs.Tests.{first-met};
 ghost use Rattle.event.specs.Tests.{claim-tests, deliver-tests, must-wait, takes-last-no, step-tests, lose-tests, answer-tests};
-use crate::entry::BALLOT_ENTRIES;
-use crate::entry::Stage;
-use crate::entry::View;
-use crate::reading::ballot_count;
-use crate::reading::finish_ballot;
-use crate::reading::no_station;
-use crate::reading::was_cast;
-use crate::stage::is_at;
-use crate::stage::is_decided;
-use crate::stage::not_idle;
+use crate::view::View;
 use basics::refusal::refuse;
 use bits::mask::mask_has;
+use entry::entry::BALLOT_ENTRIES;
+use entry::entry::Stage;
+use entry::reading::ballot_count;
+use entry::reading::finish_ballot;
+use entry::reading::no_station;
+use entry::reading::was_cast;
+use entry::stage::is_at;
+use entry::stage::is_decided;
+use entry::stage::not_idle;
 
 pub(crate) fn claim_number(v: View, s: u8) -> u8
     ensures { λ x. ⌜ x ≡ first-met (claim-tests v s) ⌝ }

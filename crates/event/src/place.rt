@@ -1,17 +1,17 @@
 // Where an event looks: its own station, the station beside it, and its ballot; and their places in the arrays.
 ghost use mathlib.Core.Path.{_≡_};
 ghost use Rattle.event.specs.Meant.{meant};
-ghost use Rattle.event.specs.Entries.{stationEntries, ballotEntries};
+ghost use Rattle.entry.specs.Entries.{stationEntries, ballotEntries};
 ghost use Rattle.event.specs.Places.{own-of, next-cursor, step-beside, beside-of, step-ballot, ballot-of, Place};
-use crate::entry::BALLOT_ENTRIES;
-use crate::entry::STATION_ENTRIES;
-use crate::entry::Stage;
-use crate::entry::Station;
 use crate::event::Event;
-use crate::reading::bit_ballot;
-use crate::reading::finish_ballot;
-use crate::stage::is_at;
-use crate::stage::on_finish;
+use entry::entry::BALLOT_ENTRIES;
+use entry::entry::STATION_ENTRIES;
+use entry::entry::Stage;
+use entry::entry::Station;
+use entry::reading::bit_ballot;
+use entry::reading::finish_ballot;
+use entry::stage::is_at;
+use entry::stage::on_finish;
 
 // The station whose entry the event changes.
 pub fn own_of(e: Event) -> u8

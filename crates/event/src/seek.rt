@@ -1,14 +1,14 @@
 // STEP of a seeking station.
 ghost use mathlib.Core.Path.{_≡_};
 ghost use Rattle.event.specs.Step.{next-round, found, sought};
-use crate::changed::moved;
-use crate::entry::Stage;
-use crate::entry::Station;
-use crate::entry::View;
-use crate::reading::spelled;
+use crate::view::View;
 use bits::logarithm::ceil_log2;
 use bits::mask::mask_has;
 use bits::word::low_bits_agree;
+use entry::changed::moved;
+use entry::entry::Stage;
+use entry::entry::Station;
+use entry::reading::spelled;
 
 // The round after k, in a byte.
 pub(crate) fn next_round(k: u8) -> u8

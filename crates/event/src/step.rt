@@ -1,19 +1,19 @@
 // What an accepted STEP makes of the station's entry, and of the ballot's.
 ghost use mathlib.Core.Path.{_≡_};
 ghost use Rattle.event.specs.Step.{started, staged, bit-taken, finish-taken, stepped, voted};
-use crate::changed::casting;
-use crate::changed::moved;
-use crate::entry::Ballot;
-use crate::entry::Stage;
-use crate::entry::Station;
-use crate::entry::View;
 use crate::place::next_cursor;
-use crate::reading::spelled;
 use crate::seek::next_round;
 use crate::seek::sought;
-use crate::stage::is_at;
+use crate::view::View;
 use bits::word::bit_at;
 use bits::word::with_bit;
+use entry::changed::casting;
+use entry::changed::moved;
+use entry::entry::Ballot;
+use entry::entry::Stage;
+use entry::entry::Station;
+use entry::reading::spelled;
+use entry::stage::is_at;
 
 // The first step: the cursor on the station itself. A lone station by station decides at once.
 fn started(v: View, s: u8) -> Station

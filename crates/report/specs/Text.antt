@@ -3,12 +3,12 @@ use Prim.Native.Nat.{ℕ, zero, suc}
 use Prim.Native.String.{String}
 use mathlib.Core.Bool.{Bool, cond}
 use mathlib.Core.List.{List, [], _++_}
-use Rattle.event.specs.declared.entry.Stage.{Stage}
-use Rattle.event.specs.declared.entry.Stage.the-variants.{Idle, Waiting, Voting, Awaiting, Seeking, FinishVoting, FinishAwaiting, Decided}
+use Rattle.entry.specs.declared.entry.Stage.{Stage}
+use Rattle.entry.specs.declared.entry.Stage.the-variants.{Idle, Waiting, Voting, Awaiting, Seeking, FinishVoting, FinishAwaiting, Decided}
 use Rattle.settlement.specs.declared.record.Settlement.{Settlement}
 use Rattle.settlement.specs.declared.record.Standing.{Standing}
 use Rattle.settlement.specs.Record.{entry}
-use Rattle.event.specs.Entries.{ballots}
+use Rattle.entry.specs.Entries.{ballots}
 use Rattle.settlement.specs.Look.{looked}
 use Rattle.report.specs.Quoted.{bytes-of}
 use Rattle.report.specs.Decimal.{decimal}

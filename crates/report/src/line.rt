@@ -8,7 +8,7 @@ ghost use Rattle.report.specs.Written.{Wrote};
 use crate::writer::put_byte;
 use crate::writer::put_number;
 use crate::writer::put_word;
-use event::entry::Stage;
+use entry::entry::Stage;
 use settlement::entry::station_at;
 use settlement::look::look;
 use settlement::reading::ballot_count;

@@ -13,12 +13,12 @@ use Rattle.basics.proofs.Refusals.{refused-not, met}
 use Rattle.bits.specs.Words.{claimBits}
 use Rattle.bits.proofs.Log.{log-le}
 use Rattle.consensus.specs.Events.{Event, claim, deliver, step, lose, answer}
-use Rattle.event.specs.declared.entry.Stage.{Stage}
-use Rattle.event.specs.declared.entry.Stage.the-variants.{Voting, Awaiting, Seeking}
-use Rattle.event.specs.declared.entry.Station.{Station}
-use Rattle.event.specs.declared.entry.View.{View}
-use Rattle.event.specs.Stages.{at, in-round, on-finish}
-use Rattle.event.specs.Entries.{stationEntries, ballotEntries, no-station, by-station, ballots}
+use Rattle.entry.specs.declared.entry.Stage.{Stage}
+use Rattle.entry.specs.declared.entry.Stage.the-variants.{Voting, Awaiting, Seeking}
+use Rattle.entry.specs.declared.entry.Station.{Station}
+use Rattle.event.specs.declared.view.View.{View}
+use Rattle.entry.specs.Stages.{at, in-round, on-finish}
+use Rattle.entry.specs.Entries.{stationEntries, ballotEntries, no-station, by-station, ballots}
 use Rattle.event.specs.Places.{own-of, next-cursor, step-beside, beside-of, step-ballot, ballot-of, within}
 use Rattle.event.specs.Change.{number-on, own-after, ballot-after}
 use Rattle.settlement.specs.declared.record.Settlement.{Settlement}

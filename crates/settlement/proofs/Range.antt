@@ -12,12 +12,12 @@ use Rattle.bits.proofs.Log.{log-le}
 use Rattle.basics.specs.Below.{any-below}
 use Rattle.basics.proofs.Bools.{by-bool, no-clash, not-false→true, or-false}
 use Rattle.basics.proofs.Below.{any-none}
-use Rattle.event.specs.declared.entry.Stage.{Stage}
-use Rattle.event.specs.declared.entry.Station.{Station}
+use Rattle.entry.specs.declared.entry.Stage.{Stage}
+use Rattle.entry.specs.declared.entry.Station.{Station}
 use Rattle.settlement.specs.declared.record.Settlement.{Settlement}
-use Rattle.event.specs.Entries.{stationEntries, by-station}
+use Rattle.entry.specs.Entries.{stationEntries, by-station}
 use Rattle.settlement.specs.Record.{entry}
-use Rattle.event.specs.Stages.{in-round, on-finish, past-waiting}
+use Rattle.entry.specs.Stages.{in-round, on-finish, past-waiting}
 use Rattle.settlement.specs.Fault.{station-fault, fault-at, fault}
 
 unless : (a b : Bool) → (a && b) ≡ false → a ≡ true → b ≡ false

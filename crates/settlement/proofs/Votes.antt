@@ -10,12 +10,12 @@ use Rattle.bits.specs.Words.{claimBits}
 use Rattle.bits.proofs.Log.{log-le}
 use Rattle.basics.proofs.Bools.{cond-ind, not-false→true}
 use Rattle.basics.proofs.Refusals.{refused-not}
-use Rattle.event.specs.declared.entry.Stage.{Stage}
-use Rattle.event.specs.declared.entry.Stage.the-variants.{Idle, Waiting, Voting, Awaiting, Seeking, FinishVoting, FinishAwaiting, Decided}
+use Rattle.entry.specs.declared.entry.Stage.{Stage}
+use Rattle.entry.specs.declared.entry.Stage.the-variants.{Idle, Waiting, Voting, Awaiting, Seeking, FinishVoting, FinishAwaiting, Decided}
 use Rattle.settlement.specs.declared.record.Settlement.{Settlement}
 use Rattle.settlement.specs.Record.{entry}
-use Rattle.event.specs.Entries.{by-station, no-station}
-use Rattle.event.specs.Stages.{in-round, on-finish}
+use Rattle.entry.specs.Entries.{by-station, no-station}
+use Rattle.entry.specs.Stages.{in-round, on-finish}
 use Rattle.settlement.specs.Fault.{fault}
 use Rattle.basics.specs.Tests.{when, first-met}
 use Rattle.settlement.specs.Look.{look-tests, votes}

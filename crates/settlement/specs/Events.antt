@@ -7,7 +7,7 @@ use lib.Dec.{eqb, ltb}
 use lib.ListN.{replicate}
 use Rattle.basics.specs.Tests.{Test, when, first-met}
 use Rattle.consensus.specs.Events.{Event}
-use Rattle.event.specs.Entries.{stationEntries, ballotEntries, blank-station, blank-ballot}
+use Rattle.entry.specs.Entries.{stationEntries, ballotEntries, blank-station, blank-ballot}
 use Rattle.event.specs.Places.{own-of}
 use Rattle.event.specs.Tests.{tests-on}
 use Rattle.event.specs.Change.{own-after, ballot-after}

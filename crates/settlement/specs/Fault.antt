@@ -5,9 +5,9 @@ use lib.Dec.{eqb, ltb, leb}
 use Rattle.basics.specs.Below.{any-below}
 use Rattle.bits.specs.Log.{ceilLog2}
 use Rattle.bits.specs.Words.{claimBits}
-use Rattle.event.specs.declared.entry.Station.{Station}
-use Rattle.event.specs.Stages.{in-round, on-finish, past-waiting}
-use Rattle.event.specs.Entries.{stationEntries}
+use Rattle.entry.specs.declared.entry.Station.{Station}
+use Rattle.entry.specs.Stages.{in-round, on-finish, past-waiting}
+use Rattle.entry.specs.Entries.{stationEntries}
 use Rattle.settlement.specs.declared.record.Settlement.{Settlement}
 use Rattle.settlement.specs.Record.{entry}
 

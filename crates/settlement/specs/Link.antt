@@ -10,13 +10,13 @@ use Rattle.consensus.specs.Events.{History, start, _▷_, Rule, byStation, byCl
 use Rattle.consensus.specs.State as play
 use Rattle.consensus.specs.Rules.{is-bit}
 use Rattle.basics.specs.Below.{any-below}
-use Rattle.event.specs.declared.entry.Stage.{Stage}
-use Rattle.event.specs.declared.entry.Stage.the-variants.{Idle, Waiting, Voting, Awaiting, Seeking, FinishVoting, FinishAwaiting, Decided}
-use Rattle.event.specs.declared.entry.Station.{Station}
-use Rattle.event.specs.declared.entry.Ballot.{Ballot}
+use Rattle.entry.specs.declared.entry.Stage.{Stage}
+use Rattle.entry.specs.declared.entry.Stage.the-variants.{Idle, Waiting, Voting, Awaiting, Seeking, FinishVoting, FinishAwaiting, Decided}
+use Rattle.entry.specs.declared.entry.Station.{Station}
+use Rattle.entry.specs.declared.entry.Ballot.{Ballot}
 use Rattle.settlement.specs.declared.record.Settlement.{Settlement}
 use Rattle.settlement.specs.Record.{entry, ballot}
-use Rattle.event.specs.Entries.{was-cast}
+use Rattle.entry.specs.Entries.{was-cast}
 use Rattle.settlement.specs.Events.{opened, played}
 
 -- rule 1 is by station, rule 2 by claim

@@ -5,11 +5,11 @@ use mathlib.Core.List.{List, [], _∷_}
 use lib.Dec.{eqb}
 use Rattle.basics.specs.Tests.{Test, when, first-met}
 use Rattle.bits.specs.Log.{ceilLog2}
-use Rattle.event.specs.declared.entry.Stage.{Stage}
-use Rattle.event.specs.declared.entry.Stage.the-variants.{Idle, Waiting, Voting, Awaiting, Seeking, FinishVoting, FinishAwaiting, Decided}
-use Rattle.event.specs.declared.entry.Station.{Station}
-use Rattle.event.specs.Stages.{is-decided}
-use Rattle.event.specs.Entries.{no-station, by-station}
+use Rattle.entry.specs.declared.entry.Stage.{Stage}
+use Rattle.entry.specs.declared.entry.Stage.the-variants.{Idle, Waiting, Voting, Awaiting, Seeking, FinishVoting, FinishAwaiting, Decided}
+use Rattle.entry.specs.declared.entry.Station.{Station}
+use Rattle.entry.specs.Stages.{is-decided}
+use Rattle.entry.specs.Entries.{no-station, by-station}
 use Rattle.settlement.specs.declared.record.Settlement.{Settlement}
 use Rattle.settlement.specs.declared.record.Standing.{Standing}
 use Rattle.settlement.specs.Record.{entry}

@@ -3,10 +3,10 @@
 use Prim.Native.Nat.{ℕ}
 use lib.ListN.{getD, set}
 use Rattle.consensus.specs.Events.{Event}
-use Rattle.event.specs.declared.entry.Station.{Station}
-use Rattle.event.specs.declared.entry.Ballot.{Ballot}
-use Rattle.event.specs.declared.entry.View.{View}
-use Rattle.event.specs.Entries.{blank-station, blank-ballot}
+use Rattle.entry.specs.declared.entry.Station.{Station}
+use Rattle.entry.specs.declared.entry.Ballot.{Ballot}
+use Rattle.event.specs.declared.view.View.{View}
+use Rattle.entry.specs.Entries.{blank-station, blank-ballot}
 use Rattle.event.specs.Places.{own-of, beside-of, ballot-of}
 use Rattle.settlement.specs.declared.record.Settlement.{Settlement}
 

@@ -2,16 +2,16 @@
 ghost use mathlib.Core.Path.{_≡_};
 ghost use Prim.Native.Nat.{_≤_};
 ghost use Rattle.basics.specs.Below.{any-below};
-ghost use Rattle.event.specs.Entries.{stationEntries};
+ghost use Rattle.entry.specs.Entries.{stationEntries};
 ghost use Rattle.settlement.specs.Fault.{station-fault, fault-at, fault};
 use crate::record::Settlement;
 use bits::logarithm::ceil_log2;
 use bits::word::WORD_BITS;
-use event::entry::STATION_ENTRIES;
-use event::entry::Station;
-use event::stage::in_round;
-use event::stage::on_finish;
-use event::stage::past_waiting;
+use entry::entry::STATION_ENTRIES;
+use entry::entry::Station;
+use entry::stage::in_round;
+use entry::stage::on_finish;
+use entry::stage::past_waiting;
 
 // One station's test, in a record of n stations.
 pub fn station_faulty(n: u8, rule: u8, t: Station) -> bool

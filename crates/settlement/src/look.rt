@@ -9,11 +9,11 @@ use crate::record::Standing;
 use basics::refusal::refuse;
 use bits::logarithm::ceil_log2;
 use bits::word::Word;
-use event::entry::Stage;
-use event::entry::Station;
+use entry::entry::Stage;
+use entry::entry::Station;
+use entry::reading::no_station;
+use entry::stage::is_decided;
 use event::place::station_place;
-use event::reading::no_station;
-use event::stage::is_decided;
 
 // The votes of a station that stands so, in a record of n stations.
 pub fn votes(n: u8, rule: u8, t: Station) -> usize

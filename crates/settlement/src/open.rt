@@ -5,10 +5,10 @@ ghost use Rattle.basics.specs.Tests.{first-met};
 use crate::record::Outcome;
 use crate::record::Settlement;
 use basics::refusal::refuse;
-use event::entry::BALLOT_ENTRIES;
-use event::entry::STATION_ENTRIES;
-use event::entry::blank_ballot;
-use event::entry::blank_station;
+use entry::entry::BALLOT_ENTRIES;
+use entry::entry::STATION_ENTRIES;
+use entry::entry::blank_ballot;
+use entry::entry::blank_station;
 
 // n stations under a rule, and every entry as it starts.
 fn fresh(n: u8, rule: u8) -> Settlement

@@ -6,13 +6,13 @@ use crate::fault::faulty;
 use crate::record::Outcome;
 use crate::record::Settlement;
 use event::change::change_of;
-use event::entry::View;
 use event::event::Event;
 use event::place::ballot_of;
 use event::place::ballot_place;
 use event::place::beside_of;
 use event::place::own_of;
 use event::place::station_place;
+use event::view::View;
 
 pub fn play(r: Settlement, e: Event) -> Outcome
     ensures { λ x. ⌜ x ≡ played r (meant e) ⌝ }

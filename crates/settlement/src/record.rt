@@ -1,9 +1,9 @@
 // The settlement record (document 01, "The settlement"). Nothing else is kept.
 use bits::word::Word;
-use event::entry::BALLOT_ENTRIES;
-use event::entry::Ballot;
-use event::entry::STATION_ENTRIES;
-use event::entry::Station;
+use entry::entry::BALLOT_ENTRIES;
+use entry::entry::Ballot;
+use entry::entry::STATION_ENTRIES;
+use entry::entry::Station;
 
 // A settlement is one multivalued consensus: n stations, and rule 1 (by station) or 2 (by claim).
 pub struct Settlement {

@@ -30,14 +30,14 @@ use Rattle.consensus.proofs.Told.{stage-after, voted-shown, decided-shown, show
 use Rattle.consensus.proofs.Agree.{length-up-to}
 use Rattle.consensus.proofs.Demand3 as play-proofs
 use Rattle.consensus.proofs.Figures as figure-proofs
-use Rattle.event.specs.declared.entry.Stage.{Stage}
-use Rattle.event.specs.declared.entry.Stage.the-variants.{Idle, Waiting, Voting, Awaiting, Seeking, FinishVoting, FinishAwaiting, Decided as Has-decided}
-use Rattle.event.specs.declared.entry.Station.{Station}
+use Rattle.entry.specs.declared.entry.Stage.{Stage}
+use Rattle.entry.specs.declared.entry.Stage.the-variants.{Idle, Waiting, Voting, Awaiting, Seeking, FinishVoting, FinishAwaiting, Decided as Has-decided}
+use Rattle.entry.specs.declared.entry.Station.{Station}
 use Rattle.settlement.specs.declared.record.Settlement.{Settlement}
 use Rattle.settlement.specs.declared.record.Standing.{Standing}
-use Rattle.event.specs.Entries.{stationEntries, ballotEntries, blank-station, blank-ballot, no-station, was-cast}
+use Rattle.entry.specs.Entries.{stationEntries, ballotEntries, blank-station, blank-ballot, no-station, was-cast}
 use Rattle.settlement.specs.Record.{entry}
-use Rattle.event.specs.Stages.{is-decided}
+use Rattle.entry.specs.Stages.{is-decided}
 use Rattle.settlement.specs.Fault.{fault}
 use Rattle.settlement.specs.Events.{open-tests, number, outcome, fresh, blank, opened, effect, played}
 use Rattle.settlement.specs.Look.{look-tests}

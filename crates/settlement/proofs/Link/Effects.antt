@@ -30,16 +30,16 @@ use Rattle.consensus.proofs.Ballots.{Short, bit-below, finish-ballot-below}
 use Rattle.consensus.proofs.Spelling.{unfinished-of}
 use Rattle.consensus.proofs.Steps.{idle-refused, decided-refused}
 use Rattle.consensus.proofs.Reached.{claim-accepted, deliver-accepted, step-accepted, lose-accepted, answer-accepted}
-use Rattle.event.specs.declared.entry.Stage.{Stage}
-use Rattle.event.specs.declared.entry.Stage.the-variants.{Idle, Waiting, Voting, Awaiting, Seeking, FinishVoting, FinishAwaiting, Decided}
-use Rattle.event.specs.declared.entry.Station.{Station}
-use Rattle.event.specs.declared.entry.Ballot.{Ballot}
+use Rattle.entry.specs.declared.entry.Stage.{Stage}
+use Rattle.entry.specs.declared.entry.Stage.the-variants.{Idle, Waiting, Voting, Awaiting, Seeking, FinishVoting, FinishAwaiting, Decided}
+use Rattle.entry.specs.declared.entry.Station.{Station}
+use Rattle.entry.specs.declared.entry.Ballot.{Ballot}
 use Rattle.basics.proofs.Lists.{set-again}
 use Rattle.settlement.specs.declared.record.Settlement.{Settlement}
-use Rattle.event.specs.Entries.{ballotEntries, blank-station, blank-ballot, bit-ballot, spelled, claiming, holding, losing, moved, casting, answering}
+use Rattle.entry.specs.Entries.{ballotEntries, blank-station, blank-ballot, bit-ballot, spelled, claiming, holding, losing, moved, casting, answering}
 use Rattle.settlement.specs.Record.{entry, ballot, with-station, with-ballot}
-use Rattle.event.specs.declared.entry.View.{View}
-use Rattle.event.specs.Stages.{not-idle, in-round, on-finish}
+use Rattle.event.specs.declared.view.View.{View}
+use Rattle.entry.specs.Stages.{not-idle, in-round, on-finish}
 use Rattle.event.specs.Places.{next-cursor, step-beside, step-ballot}
 use Rattle.event.specs.Step.{next-round, started, staged, bit-taken, finish-taken, found, sought, stepped, voted}
 use Rattle.event.specs.Change.{own-after, ballot-after}

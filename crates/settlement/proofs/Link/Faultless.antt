@@ -16,13 +16,13 @@ use Rattle.consensus.proofs.Invariant.{Stage-ok, Inv}
 use Rattle.consensus.proofs.Ballots.{Short}
 use Rattle.consensus.proofs.Supplied.{no-such-rule}
 use Rattle.consensus.proofs.Steps.{opening}
-use Rattle.event.specs.declared.entry.Stage.{Stage}
-use Rattle.event.specs.declared.entry.Stage.the-variants.{Idle, Waiting, Voting, Awaiting, Seeking, FinishVoting, FinishAwaiting, Decided}
-use Rattle.event.specs.declared.entry.Station.{Station}
+use Rattle.entry.specs.declared.entry.Stage.{Stage}
+use Rattle.entry.specs.declared.entry.Stage.the-variants.{Idle, Waiting, Voting, Awaiting, Seeking, FinishVoting, FinishAwaiting, Decided}
+use Rattle.entry.specs.declared.entry.Station.{Station}
 use Rattle.settlement.specs.declared.record.Settlement.{Settlement}
-use Rattle.event.specs.Entries.{stationEntries}
+use Rattle.entry.specs.Entries.{stationEntries}
 use Rattle.settlement.specs.Record.{entry}
-use Rattle.event.specs.Stages.{in-round, on-finish, past-waiting}
+use Rattle.entry.specs.Stages.{in-round, on-finish, past-waiting}
 use Rattle.settlement.specs.Fault.{station-fault, fault}
 use Rattle.settlement.specs.Link.{rule-number, stage-of}
 use Rattle.settlement.proofs.Link.Linked.{Linked}

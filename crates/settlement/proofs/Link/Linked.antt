@@ -18,12 +18,12 @@ use borrow.Author.Tests.{eqb-true, eqb-false}
 use Rattle.consensus.proofs.Basics.{update-ind, update-same, update-other}
 use Rattle.basics.proofs.Bools.{by-bool, no-clash}
 use Rattle.basics.proofs.Below.{any-true}
-use Rattle.event.specs.declared.entry.Stage.{Stage}
-use Rattle.event.specs.declared.entry.Stage.the-variants.{Idle, Waiting, Voting, Awaiting, Seeking, FinishVoting, FinishAwaiting, Decided}
-use Rattle.event.specs.declared.entry.Station.{Station}
-use Rattle.event.specs.declared.entry.Ballot.{Ballot}
+use Rattle.entry.specs.declared.entry.Stage.{Stage}
+use Rattle.entry.specs.declared.entry.Stage.the-variants.{Idle, Waiting, Voting, Awaiting, Seeking, FinishVoting, FinishAwaiting, Decided}
+use Rattle.entry.specs.declared.entry.Station.{Station}
+use Rattle.entry.specs.declared.entry.Ballot.{Ballot}
 use Rattle.settlement.specs.declared.record.Settlement.{Settlement}
-use Rattle.event.specs.Entries.{stationEntries, ballotEntries, blank-station, blank-ballot, was-cast, casting, answering}
+use Rattle.entry.specs.Entries.{stationEntries, ballotEntries, blank-station, blank-ballot, was-cast, casting, answering}
 use Rattle.settlement.specs.Record.{entry, ballot, with-station, with-ballot}
 use Rattle.settlement.specs.Link.{rule-number, stands-at, answer-in, Shows-play}
 

@@ -20,13 +20,13 @@ use Rattle.basics.proofs.Refusals.{refuse-both}
 use Rattle.consensus.proofs.Invariant.{Stage-ok, Inv}
 use Rattle.consensus.proofs.Ballots.{Short}
 use Rattle.consensus.proofs.Reached.{station-below}
-use Rattle.event.specs.declared.entry.Stage.{Stage}
-use Rattle.event.specs.declared.entry.Stage.the-variants.{Idle, Waiting, Voting, Awaiting, Seeking, FinishVoting, FinishAwaiting, Decided}
-use Rattle.event.specs.declared.entry.Station.{Station}
-use Rattle.event.specs.declared.entry.Ballot.{Ballot}
+use Rattle.entry.specs.declared.entry.Stage.{Stage}
+use Rattle.entry.specs.declared.entry.Stage.the-variants.{Idle, Waiting, Voting, Awaiting, Seeking, FinishVoting, FinishAwaiting, Decided}
+use Rattle.entry.specs.declared.entry.Station.{Station}
+use Rattle.entry.specs.declared.entry.Ballot.{Ballot}
 use Rattle.settlement.specs.declared.record.Settlement.{Settlement}
-use Rattle.event.specs.Entries.{ballotEntries, ballots, bit-ballot, no-station}
-use Rattle.event.specs.Stages.{at, not-idle, is-decided}
+use Rattle.entry.specs.Entries.{ballotEntries, ballots, bit-ballot, no-station}
+use Rattle.entry.specs.Stages.{at, not-idle, is-decided}
 use Rattle.event.specs.Places.{step-ballot}
 use Rattle.event.specs.Tests.{last-ballot}
 use Rattle.event.specs.Change.{number-on}
