@@ -27,10 +27,10 @@ pub enum Stage {
 pub struct Station {
     pub stage: Stage,
     pub lost: bool,
-    pub held: u32,
-    pub claim: Word,
     pub cursor: u8,
     pub round: u8,
+    pub held: u32,
+    pub claim: Word,
     pub word: Word,
     pub decision: Word,
 }
