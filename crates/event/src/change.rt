@@ -1,7 +1,7 @@
 // One event, whole, on the entries that it looks at.
 ghost use mathlib.Core.Path.{_≡_};
 ghost use Rattle.event.specs.Meant.{meant};
-ghost use Rattle.event.specs.Change.{number-on, own-after, ballot-after, change-of};
+ghost use Rattle.event.specs.Change.{change-of};
 use crate::event::Event;
 use crate::number::answer_number;
 use crate::number::claim_number;
@@ -25,53 +25,36 @@ pub struct Change {
     pub ballot: Ballot,
 }
 
-fn number_on(v: View, e: Event) -> u8
-    ensures { λ x. ⌜ x ≡ number-on v (meant e) ⌝ }
-{
-    match e {
-        Event::Claim { s, v: _ } => claim_number(v, s),
-        Event::Deliver { t, s } => deliver_number(v, t, s),
-        Event::Step { s } => step_number(v, s),
-        Event::Lose { s } => lose_number(v, s),
-        Event::Answer { b, a } => answer_number(v, b, a),
-    }
-}
-
-fn own_after(v: View, e: Event) -> Station
-    ensures { λ x. ⌜ x ≡ own-after v (meant e) ⌝ }
-{
-    let own = v.own;
-    match e {
-        Event::Claim { s: _, v: claim } => claiming(own, claim),
-        Event::Deliver { t, s: _ } => holding(own, t),
-        Event::Step { s } => stepped(v, s),
-        Event::Lose { s: _ } => losing(own),
-        Event::Answer { b: _, a: _ } => own,
-    }
-}
-
-fn ballot_after(v: View, e: Event) -> Ballot
-    ensures { λ x. ⌜ x ≡ ballot-after v (meant e) ⌝ }
-{
-    let ballot = v.ballot;
-    match e {
-        Event::Claim { s: _, v: _ } => ballot,
-        Event::Deliver { t: _, s: _ } => ballot,
-        Event::Step { s: _ } => voted(v),
-        Event::Lose { s: _ } => ballot,
-        Event::Answer { b: _, a } => answering(ballot, a == 1),
-    }
-}
-
 pub fn change_of(v: View, e: Event) -> Change
     ensures { λ x. ⌜ x ≡ change-of v (meant e) ⌝ }
 {
-    let number = number_on(v, e);
-    let own = own_after(v, e);
-    let ballot = ballot_after(v, e);
-    Change {
-        number,
-        own,
-        ballot,
+    let own = v.own;
+    let ballot = v.ballot;
+    match e {
+        Event::Claim { s, v: claim } => Change {
+            number: claim_number(v, s),
+            own: claiming(own, claim),
+            ballot,
+        },
+        Event::Deliver { t, s } => Change {
+            number: deliver_number(v, t, s),
+            own: holding(own, t),
+            ballot,
+        },
+        Event::Step { s } => Change {
+            number: step_number(v, s),
+            own: stepped(v, s),
+            ballot: voted(v),
+        },
+        Event::Lose { s } => Change {
+            number: lose_number(v, s),
+            own: losing(own),
+            ballot,
+        },
+        Event::Answer { b, a } => Change {
+            number: answer_number(v, b, a),
+            own,
+            ballot: answering(ballot, a == 1),
+        },
     }
 }
