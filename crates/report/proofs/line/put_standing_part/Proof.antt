@@ -12,9 +12,6 @@ put-decision-requires c κs = search needs
 slice-aggregate-put-named : tie.Need-slice-aggregate-put-named
 slice-aggregate-put-named c = search needs
 
-cast-put-named : tie.Need-cast-put-named
-cast-put-named c = search needs
-
 put-named-requires : tie.Need-put-named-requires
 put-named-requires c κs = search needs
 
@@ -32,7 +29,7 @@ unfolding standing-part
 returns c =
     let lost = c .before .before .before .before .before .before in
     let votes = lost .before .before .before .before in
-    let decision = votes .before .before .before .before .before .before in
+    let decision = votes .before .before .before .before .before in
     let decision-votes = and-then (decision .put-decision .ensures) (votes .put-named .ensures) in
     at-most {m = 53} (lit≤ tt) (and-then (and-then decision-votes (lost .put-presence .ensures)) (c .before .before .put-byte .ensures))
 
@@ -42,7 +39,6 @@ put-standing-part-spec =
     (tie.spec
     put-decision-requires
     slice-aggregate-put-named
-    cast-put-named
     put-named-requires
     put-presence-requires
     put-byte-requires
