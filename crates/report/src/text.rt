@@ -34,12 +34,11 @@ fn put_station_lines(
     n: u8,
     rule: u8,
     faulty: bool,
-    entries: [Station; STATION_ENTRIES as usize],
+    stations: [Station; STATION_ENTRIES as usize],
 ) -> usize
     requires { ⌜ at + 22950 ≤ 65536 ⌝ }
-    ensures { λ x. ⌜ Wrote 22950 (now (out .entry)) at (station-lines (line-in n rule faulty entries) n) (now (out .exit)) x ⌝ }
+    ensures { λ x. ⌜ Wrote 22950 (now (out .entry)) at (station-lines (line-in n rule faulty stations) n) (now (out .exit)) x ⌝ }
 {
-    let stations = entries;
     let mut next = at;
     let mut s: u8 = 0;
     while s < n {
@@ -57,15 +56,15 @@ fn put_text(
     n: u8,
     rule: u8,
     faulty: bool,
-    entries: [Station; STATION_ENTRIES as usize],
+    stations: [Station; STATION_ENTRIES as usize],
     events: usize,
     taken: usize,
     status: u8,
 ) -> usize
-    ensures { λ x. ⌜ Wrote 23130 (now (out .entry)) 0 (first-line n rule events taken status ++ station-lines (line-in n rule faulty entries) n) (now (out .exit)) x ⌝ }
+    ensures { λ x. ⌜ Wrote 23130 (now (out .entry)) 0 (first-line n rule events taken status ++ station-lines (line-in n rule faulty stations) n) (now (out .exit)) x ⌝ }
 {
     let next = put_first_line(out, 0, n, rule, events, taken, status);
-    put_station_lines(out, next, n, rule, faulty, entries)
+    put_station_lines(out, next, n, rule, faulty, stations)
 }
 
 // The text at the start of the buffer, and its length; where it does not fit, nothing and 0. The record is tested once.
@@ -73,19 +72,28 @@ pub fn report_of(r: Settlement, events: usize, taken: usize, status: u8, out: &m
     ensures { λ x. ⌜ Printed (text r events taken status) (now (out .entry)) (now (out .exit)) x ⌝ }
 {
     let faulty = faulty(r);
-    let entries = r.stations;
+    let stations = r.stations;
     let need = put_text(
         &mut out[..0],
         r.count,
         r.rule,
         faulty,
-        entries,
+        stations,
         events,
         taken,
         status,
     );
     if need <= out.len() {
-        return put_text(out, r.count, r.rule, faulty, entries, events, taken, status);
+        return put_text(
+            out,
+            r.count,
+            r.rule,
+            faulty,
+            stations,
+            events,
+            taken,
+            status,
+        );
     }
     0
 }

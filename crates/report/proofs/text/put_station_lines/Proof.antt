@@ -51,10 +51,10 @@ unfolding station-lines
 loop-again c =
     let start = c .before .before .before .before .before .before .before .before .before .before in
     let s = c .before .before .before .before .before .before .before .before .loop .s in
-    let l : length (start .args .entries) ≡ stationEntries = search (unmapped-length, needs) in
+    let l : length (start .args .t6) ≡ stationEntries = search (unmapped-length, needs) in
     let place = c .before .before .before .before .before .before .station-place .ensures .place in
-    let t : c .before .before .before .before .entry-or-blank .result ≡ getD (start .args .entries) s blank-station =
-    rw place at (c .before .before .before .before .entry-or-blank .ensures) ∙ entry-at (start .args .entries) s l in
+    let t : c .before .before .before .before .entry-or-blank .result ≡ getD (start .args .t6) s blank-station =
+    rw place at (c .before .before .before .before .entry-or-blank .ensures) ∙ entry-at (start .args .t6) s l in
     let w = and-then (c .before .before .before .before .before .before .before .before .loop .inv .1) (rw t at (c .before .before .put-station-line .ensures)) in
     (omega arith, rw (add-one s, ← add-one s) (at-most {m = 90 * s + 90} (omega arith) w))
 
