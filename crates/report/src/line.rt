@@ -7,10 +7,10 @@ ghost use lib.ListN.{length};
 ghost use Rattle.settlement.specs.Look.{votes};
 ghost use Rattle.report.specs.Text.{settlement-part, run-part, first-line, stage-word, decision-shown, presence, stage-part, standing-part, entry-line, word-row};
 ghost use Rattle.report.specs.Decimal.{decimal};
-ghost use Rattle.report.specs.Written.{Wrote};
-use crate::writer::put_byte;
+ghost use Rattle.basics.specs.Written.{Wrote};
 use crate::writer::put_number;
-use crate::writer::put_word;
+use basics::writer::put_byte;
+use basics::writer::put_word;
 use bits::word::Word;
 use event::entry::Stage;
 use event::entry::Station;
@@ -21,7 +21,6 @@ use settlement::look::votes;
 
 // A number after its name.
 fn put_named(out: &mut [u8], at: usize, name: &[u8], x: usize) -> usize
-    requires { ⌜ at + (length (now name) + 20) ≤ 65536 ⌝ }
     ensures { λ r. ⌜ Wrote (length (now (name .entry)) + 20) (now (out .entry)) at (now (name .entry) ++ decimal x) (now (out .exit)) r ⌝ }
 {
     let next = put_word(out, at, name);
@@ -62,7 +61,6 @@ fn word_length(stage: Stage) -> usize
 }
 
 fn put_stage(out: &mut [u8], at: usize, stage: Stage) -> usize
-    requires { ⌜ at + 8 ≤ 65536 ⌝ }
     ensures { λ x. ⌜ Wrote 8 (now (out .entry)) at (stage-word stage) (now (out .exit)) x ⌝ }
 {
     let words: &[u8] = b"idle    waiting voting  awaitingseeking decided ";
@@ -73,7 +71,6 @@ fn put_stage(out: &mut [u8], at: usize, stage: Stage) -> usize
 
 // The decided claim, or `-`.
 fn put_decision(out: &mut [u8], at: usize, decided: bool, claim: Word) -> usize
-    requires { ⌜ at + 20 ≤ 65536 ⌝ }
     ensures { λ x. ⌜ Wrote 20 (now (out .entry)) at (decision-shown decided claim) (now (out .exit)) x ⌝ }
 {
     if decided {
@@ -83,7 +80,6 @@ fn put_decision(out: &mut [u8], at: usize, decided: bool, claim: Word) -> usize
 }
 
 fn put_presence(out: &mut [u8], at: usize, lost: bool) -> usize
-    requires { ⌜ at + 5 ≤ 65536 ⌝ }
     ensures { λ x. ⌜ Wrote 5 (now (out .entry)) at (presence lost) (now (out .exit)) x ⌝ }
 {
     if lost {
@@ -94,7 +90,6 @@ fn put_presence(out: &mut [u8], at: usize, lost: bool) -> usize
 
 // Line one, up to the ballots.
 fn put_settlement(out: &mut [u8], at: usize, n: u8, rule: u8) -> usize
-    requires { ⌜ at + 90 ≤ 65536 ⌝ }
     ensures { λ x. ⌜ Wrote 90 (now (out .entry)) at (settlement-part n rule) (now (out .exit)) x ⌝ }
 {
     let a = put_named(out, at, b"stations ", n as usize);
@@ -104,7 +99,6 @@ fn put_settlement(out: &mut [u8], at: usize, n: u8, rule: u8) -> usize
 
 // Line one, from the events on.
 fn put_run(out: &mut [u8], at: usize, events: usize, taken: usize, status: u8) -> usize
-    requires { ⌜ at + 90 ≤ 65536 ⌝ }
     ensures { λ x. ⌜ Wrote 90 (now (out .entry)) at (run-part events taken status) (now (out .exit)) x ⌝ }
 {
     let a = put_named(out, at, b" events ", events);
@@ -122,7 +116,6 @@ pub(crate) fn put_first_line(
     taken: usize,
     status: u8,
 ) -> usize
-    requires { ⌜ at + 180 ≤ 65536 ⌝ }
     ensures { λ x. ⌜ Wrote 180 (now (out .entry)) at (first-line n rule events taken status) (now (out .exit)) x ⌝ }
 {
     let next = put_settlement(out, at, n, rule);
@@ -131,7 +124,6 @@ pub(crate) fn put_first_line(
 
 // The line of station s, up to its stage.
 fn put_stage_part(out: &mut [u8], at: usize, s: u8, stage: Stage) -> usize
-    requires { ⌜ at + 30 ≤ 65536 ⌝ }
     ensures { λ x. ⌜ Wrote 30 (now (out .entry)) at (stage-part s stage) (now (out .exit)) x ⌝ }
 {
     let a = put_number(out, at, s as usize);
@@ -149,7 +141,6 @@ fn put_standing_part(
     votes: usize,
     lost: bool,
 ) -> usize
-    requires { ⌜ at + 60 ≤ 65536 ⌝ }
     ensures { λ x. ⌜ Wrote 60 (now (out .entry)) at (standing-part decided claim votes lost) (now (out .exit)) x ⌝ }
 {
     let a = put_decision(out, at, decided, claim);
@@ -175,7 +166,6 @@ pub(crate) fn put_station_line(
     s: u8,
     t: Station,
 ) -> usize
-    requires { ⌜ at + 90 ≤ 65536 ⌝ }
     ensures { λ x. ⌜ Wrote 90 (now (out .entry)) at (entry-line n rule faulty s t) (now (out .exit)) x ⌝ }
 {
     let stage = t.stage;

@@ -6,7 +6,8 @@ ghost use mathlib.Core.List.{_++_};
 ghost use lib.Dec.{ltb};
 ghost use Rattle.event.specs.Entries.{stationEntries, blank-station};
 ghost use Rattle.report.specs.Text.{first-line, station-lines, line-in, text};
-ghost use Rattle.report.specs.Written.{Wrote, Printed};
+ghost use Rattle.basics.specs.Written.{Wrote};
+ghost use Rattle.report.specs.Written.{Printed};
 use crate::line::put_first_line;
 use crate::line::put_station_line;
 use event::entry::STATION_ENTRIES;
@@ -36,7 +37,6 @@ fn put_station_lines(
     faulty: bool,
     stations: [Station; STATION_ENTRIES as usize],
 ) -> usize
-    requires { ⌜ at + 22950 ≤ 65536 ⌝ }
     ensures { λ x. ⌜ Wrote 22950 (now (out .entry)) at (station-lines (line-in n rule faulty stations) n) (now (out .exit)) x ⌝ }
 {
     let mut next = at;

@@ -1,7 +1,7 @@
 -- `report::line::put_decision`: each branch writes what the definition shows for it. Assumes nothing.
 use native.Mathlib.Omega.{arith}
 use Rattle.report.specs.Text.{decision-shown}
-use Rattle.report.proofs.Written.{at-most}
+use Rattle.basics.proofs.Written.{at-most}
 use borrow.Author.Needs.{needs}
 use Rattle.report.proofs.line.put_decision.Statement.{statement}
 use Rattle.report.proofs.line.put_decision.Tie as tie

@@ -1,6 +1,6 @@
 -- `report::line::put_first_line`: the second part is written where the first ends, so together they are the line. Assumes nothing.
 use Rattle.report.specs.Text.{first-line}
-use Rattle.report.proofs.Written.{and-then}
+use Rattle.basics.proofs.Written.{and-then}
 use borrow.Author.Needs.{needs}
 use Rattle.report.proofs.line.put_first_line.Statement.{statement}
 use Rattle.report.proofs.line.put_first_line.Tie as tie

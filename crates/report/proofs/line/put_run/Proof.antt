@@ -1,7 +1,7 @@
 -- `report::line::put_run`: each number is written after its name where the last one ended, so the bytes are the line's. Assumes nothing.
 use lib.Dec.{lit≤}
 use Rattle.report.specs.Text.{run-part}
-use Rattle.report.proofs.Written.{and-then, at-most}
+use Rattle.basics.proofs.Written.{and-then, at-most}
 use borrow.Author.Needs.{needs}
 use Rattle.report.proofs.line.put_run.Statement.{statement}
 use Rattle.report.proofs.line.put_run.Tie as tie

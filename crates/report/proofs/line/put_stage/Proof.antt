@@ -4,7 +4,7 @@ use mathlib.Core.Path.{_≡_}
 use native.Mathlib.Omega.{arith}
 use lib.ListN.{length, take, drop}
 use Rattle.report.specs.Text.{stage-word, words}
-use Rattle.report.proofs.Written.{at-most}
+use Rattle.basics.proofs.Written.{at-most}
 use Rattle.report.proofs.Lines.{word-in-row}
 use borrow.Author.Needs.{needs}
 use Rattle.report.proofs.line.put_stage.Statement.{statement}

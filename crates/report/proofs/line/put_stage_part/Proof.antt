@@ -1,7 +1,7 @@
 -- `report::line::put_stage_part`: each piece is written where the last one ended, in the line's order. Assumes nothing.
 use lib.Dec.{lit≤}
 use Rattle.report.specs.Text.{stage-part}
-use Rattle.report.proofs.Written.{and-then, at-most}
+use Rattle.basics.proofs.Written.{and-then, at-most}
 use borrow.Author.Needs.{needs}
 use Rattle.report.proofs.line.put_stage_part.Statement.{statement}
 use Rattle.report.proofs.line.put_stage_part.Tie as tie

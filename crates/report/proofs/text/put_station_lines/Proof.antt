@@ -9,8 +9,8 @@ use Rattle.basics.proofs.Lists.{unmapped-length}
 use Rattle.event.specs.Entries.{stationEntries, blank-station}
 use borrow.Author.Needs.{needs}
 use Rattle.report.specs.Text.{station-lines, line-in}
-use Rattle.report.specs.Written.{Wrote}
-use Rattle.report.proofs.Written.{and-then, at-most, nothing, kept}
+use Rattle.basics.specs.Written.{Wrote}
+use Rattle.basics.proofs.Written.{and-then, at-most, nothing, kept}
 use Rattle.report.proofs.Lines.{entry-at}
 use Rattle.report.proofs.text.put_station_lines.Statement.{statement}
 use Rattle.report.proofs.text.put_station_lines.Tie as tie
@@ -23,7 +23,7 @@ abbrev μ-loop : tie.MeasureT-loop
 
 loop-holds : tie.Need-loop-holds Inv-loop μ-loop
 unfolding station-lines
-loop-holds c = (omega arith, nothing (now (c .before .args .out)) (c .before .args .at))
+loop-holds c = (omega arith, nothing (now (c .before .args .out)) (c .before .args .at) (omega arith) (omega arith))
 
 station-place-requires : tie.Need-station-place-requires Inv-loop μ-loop
 station-place-requires c κs = search needs
@@ -38,7 +38,7 @@ entry-or-blank-requires : tie.Need-entry-or-blank-requires Inv-loop μ-loop
 entry-or-blank-requires c κs = search needs
 
 put-station-line-requires : tie.Need-put-station-line-requires Inv-loop μ-loop
-put-station-line-requires c κs = omega (arith, c .before .before .before .before .before .loop .inv .1 .short)
+put-station-line-requires c κs = tt
 
 add-s : tie.Need-add-s Inv-loop μ-loop
 add-s c = omega arith

@@ -1,7 +1,7 @@
 -- `report::text::report_of`: the text by entries is the record's; it is measured on an empty part, and written where it fits. Assumes nothing.
 use denote.Ref.{now}
 use lib.Dec.{lit≤}
-use Rattle.report.proofs.Written.{fits, unfit}
+use Rattle.report.proofs.Printed.{printed, not-printed}
 use Rattle.report.proofs.Lines.{text-by-entries}
 use borrow.Author.Needs.{needs}
 use Rattle.report.proofs.text.report_of.Statement.{statement}
@@ -30,7 +30,7 @@ returns c =
     let measured = c .before .before .before .before .before .before .before in
     let tested = measured .before .before .before in
     rw (← text-by-entries, ← tested .faulty .ensures)
-    (fits (now (tested .before .before .args .out)) (measured .put-text .ensures) (lit≤ tt) (c .before .before .before .before .if1 .taken) (c .before .before .put-text2 .ensures))
+    (printed (now (tested .before .before .args .out)) (measured .put-text .ensures) (lit≤ tt) (c .before .before .before .before .if1 .taken) (c .before .before .put-text2 .ensures))
 
 same-length-2 : tie.Need-same-length-2
 same-length-2 c = search needs
@@ -40,7 +40,7 @@ returns-2 c =
     let measured = c .before .before .before in
     let tested = measured .before .before .before in
     rw (← text-by-entries, ← tested .faulty .ensures)
-    (unfit (now (tested .before .before .args .out)) (measured .put-text .ensures) (lit≤ tt) (c .if1 .left))
+    (not-printed (now (tested .before .before .args .out)) (measured .put-text .ensures) (lit≤ tt) (c .if1 .left))
 
 pub report-of-spec : {M : Type 1} → statement M
 report-of-spec =
