@@ -20,14 +20,10 @@ abbrev pub named : String → ℕ → List ℕ
 named name x = bytes-of name ++ decimal x
 
 -- "Line one: stations, rule, ballots (R or 64; 0 if blank), events, bytes taken, status."
-unfoldable pub settlement-part : (n rule : ℕ) → List ℕ
-settlement-part n rule = named "stations " n ++ named " rule " rule ++ named " ballots " (ballots n rule)
-
-unfoldable pub run-part : (events taken status : ℕ) → List ℕ
-run-part events taken status = named " events " events ++ named " taken " taken ++ named " status " status ++ bytes-of "\n"
-
 unfoldable pub first-line : (n rule events taken status : ℕ) → List ℕ
-first-line n rule events taken status = settlement-part n rule ++ run-part events taken status
+first-line n rule events taken status =
+    named "stations " n ++ named " rule " rule ++ named " ballots " (ballots n rule)
+    ++ named " events " events ++ named " taken " taken ++ named " status " status ++ bytes-of "\n"
 
 -- "Rule 2's two voting stages both print `voting`, its two awaiting stages `awaiting`."
 abbrev pub stage-word : Stage → List ℕ

@@ -5,7 +5,7 @@ ghost use mathlib.Core.Bool.{cond};
 ghost use mathlib.Core.List.{_++_};
 ghost use lib.ListN.{length};
 ghost use Rattle.settlement.specs.Look.{votes};
-ghost use Rattle.report.specs.Text.{settlement-part, run-part, first-line, stage-word, decision-shown, presence, stage-part, standing-part, entry-line, word-row};
+ghost use Rattle.report.specs.Text.{first-line, stage-word, decision-shown, presence, stage-part, standing-part, entry-line, word-row};
 ghost use Rattle.report.specs.Decimal.{decimal};
 ghost use Rattle.basics.specs.Written.{Wrote};
 use crate::writer::put_number;
@@ -88,25 +88,6 @@ fn put_presence(out: &mut [u8], at: usize, lost: bool) -> usize
     put_word(out, at, b" live")
 }
 
-// Line one, up to the ballots.
-fn put_settlement(out: &mut [u8], at: usize, n: u8, rule: u8) -> usize
-    ensures { λ x. ⌜ Wrote 90 (now (out .entry)) at (settlement-part n rule) (now (out .exit)) x ⌝ }
-{
-    let a = put_named(out, at, b"stations ", n as usize);
-    let b = put_named(out, a, b" rule ", rule as usize);
-    put_named(out, b, b" ballots ", ballot_count(n, rule))
-}
-
-// Line one, from the events on.
-fn put_run(out: &mut [u8], at: usize, events: usize, taken: usize, status: u8) -> usize
-    ensures { λ x. ⌜ Wrote 90 (now (out .entry)) at (run-part events taken status) (now (out .exit)) x ⌝ }
-{
-    let a = put_named(out, at, b" events ", events);
-    let b = put_named(out, a, b" taken ", taken);
-    let c = put_named(out, b, b" status ", status as usize);
-    put_byte(out, c, b'\n')
-}
-
 pub(crate) fn put_first_line(
     out: &mut [u8],
     at: usize,
@@ -118,8 +99,13 @@ pub(crate) fn put_first_line(
 ) -> usize
     ensures { λ x. ⌜ Wrote 180 (now (out .entry)) at (first-line n rule events taken status) (now (out .exit)) x ⌝ }
 {
-    let next = put_settlement(out, at, n, rule);
-    put_run(out, next, events, taken, status)
+    let a = put_named(out, at, b"stations ", n as usize);
+    let b = put_named(out, a, b" rule ", rule as usize);
+    let c = put_named(out, b, b" ballots ", ballot_count(n, rule));
+    let d = put_named(out, c, b" events ", events);
+    let e = put_named(out, d, b" taken ", taken);
+    let f = put_named(out, e, b" status ", status as usize);
+    put_byte(out, f, b'\n')
 }
 
 // The line of station s, up to its stage.
