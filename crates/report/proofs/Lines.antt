@@ -20,22 +20,22 @@ use Rattle.settlement.specs.declared.record.Settlement.{Settlement}
 use Rattle.settlement.specs.declared.record.Standing.{Standing}
 use Rattle.settlement.specs.Fault.{fault}
 use Rattle.settlement.specs.Look.{votes, shown-claim, standing, turned-away, looked}
-use Rattle.report.specs.Text.{first-line, stage-word, decision-shown, standing-part, station-line, station-lines, text, entry-line, line-in, words, word-row}
+use Rattle.report.specs.Text.{first-line, stage-word, decision-shown, shown-line, station-line, station-lines, text, entry-line, line-in, words, word-row}
 
 -- what LOOK shows of a station below n, whose entry is t
 abbrev shown : (n rule : ℕ) → (faulty : Bool) → Station → Standing
 shown n rule faulty t = cond (eqb (refuse faulty 42 0) 0) (standing n rule t) (turned-away (refuse faulty 42 0))
 
-as-looked : (n rule : ℕ) (faulty : Bool) (t : Station)
-    → standing-part (not faulty && is-decided (t .stage)) (shown-claim t) (cond faulty 0 (votes n rule t (t .stage))) (t .lost)
-    ≡ standing-part (shown n rule faulty t .decided) (shown n rule faulty t .claim) (shown n rule faulty t .votes) (t .lost)
-unfolding standing-part decision-shown
-as-looked n rule true t = refl
-as-looked n rule false t = refl
+as-looked : (n rule : ℕ) (faulty : Bool) (s : ℕ) (t : Station)
+    → shown-line s (t .stage) (not faulty && is-decided (t .stage)) (shown-claim t) (cond faulty 0 (votes n rule t (t .stage))) (t .lost)
+    ≡ shown-line s (t .stage) (shown n rule faulty t .decided) (shown n rule faulty t .claim) (shown n rule faulty t .votes) (t .lost)
+unfolding shown-line decision-shown
+as-looked n rule true s t = refl
+as-looked n rule false s t = refl
 
 pub line-by-entry : (r : Settlement) (s : ℕ) → s < r .count → line-in (r .count) (r .rule) (fault r) (r .stations) s ≡ station-line r s
 unfolding entry-line station-line looked first-met
-line-by-entry r s h = rw (lt-ltb s (r .count) h, as-looked (r .count) (r .rule) (fault r) (getD (r .stations) s blank-station))
+line-by-entry r s h = rw (lt-ltb s (r .count) h, as-looked (r .count) (r .rule) (fault r) s (getD (r .stations) s blank-station))
 
 same-lines : (f g : ℕ → List ℕ) (n : ℕ) → ((s : ℕ) → s < n → f s ≡ g s) → station-lines f n ≡ station-lines g n
 unfolding station-lines

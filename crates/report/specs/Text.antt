@@ -44,16 +44,15 @@ decision-shown decided claim = cond decided (decimal claim) (bytes-of "-")
 unfoldable pub presence : Bool → List ℕ
 presence lost = cond lost (bytes-of " lost") (bytes-of " live")
 
--- "Then for each station: number, stage, decided claim or `-`, votes, live or lost." Decision and votes are LOOK's.
-unfoldable pub stage-part : ℕ → Stage → List ℕ
-stage-part s stage = decimal s ++ bytes-of " " ++ stage-word stage ++ bytes-of " "
+-- "Then for each station: number, stage, decided claim or `-`, votes, live or lost."
+unfoldable pub shown-line : (s : ℕ) → Stage → (decided : Bool) → (claim votes : ℕ) → (lost : Bool) → List ℕ
+shown-line s stage decided claim k lost =
+    decimal s ++ bytes-of " " ++ stage-word stage ++ bytes-of " "
+    ++ decision-shown decided claim ++ named " votes " k ++ presence lost ++ bytes-of "\n"
 
-unfoldable pub standing-part : (decided : Bool) → (claim votes : ℕ) → (lost : Bool) → List ℕ
-standing-part decided claim k lost = decision-shown decided claim ++ named " votes " k ++ presence lost ++ bytes-of "\n"
-
+-- decision and votes are LOOK's
 unfoldable pub station-line : Settlement → ℕ → List ℕ
-station-line r s =
-    stage-part s (entry r s .stage) ++ standing-part (looked r s .decided) (looked r s .claim) (looked r s .votes) (entry r s .lost)
+station-line r s = shown-line s (entry r s .stage) (looked r s .decided) (looked r s .claim) (looked r s .votes) (entry r s .lost)
 
 -- the lines of the stations below n, in order
 unfoldable pub station-lines : (ℕ → List ℕ) → ℕ → List ℕ
@@ -72,8 +71,7 @@ too-long = bytes-of "too long\n"
 -- the line of station s, whose entry is t; on a faulty record LOOK refuses, which gives undecided and no votes
 unfoldable pub entry-line : (n rule : ℕ) → (faulty : Bool) → (s : ℕ) → Station → List ℕ
 entry-line n rule faulty s t =
-    stage-part s (t .stage)
-    ++ standing-part (not faulty && is-decided (t .stage)) (shown-claim t) (cond faulty 0 (votes n rule t (t .stage))) (t .lost)
+    shown-line s (t .stage) (not faulty && is-decided (t .stage)) (shown-claim t) (cond faulty 0 (votes n rule t (t .stage))) (t .lost)
 
 -- of an array of entries: past it a blank one is read
 abbrev pub line-in : (n rule : ℕ) → (faulty : Bool) → List Station → ℕ → List ℕ

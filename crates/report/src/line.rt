@@ -5,7 +5,7 @@ ghost use mathlib.Core.Bool.{cond};
 ghost use mathlib.Core.List.{_++_};
 ghost use lib.ListN.{length};
 ghost use Rattle.settlement.specs.Look.{votes};
-ghost use Rattle.report.specs.Text.{first-line, stage-word, decision-shown, presence, stage-part, standing-part, entry-line, word-row};
+ghost use Rattle.report.specs.Text.{first-line, stage-word, decision-shown, presence, entry-line, word-row};
 ghost use Rattle.report.specs.Decimal.{decimal};
 ghost use Rattle.basics.specs.Written.{Wrote};
 use crate::writer::put_number;
@@ -108,33 +108,6 @@ pub(crate) fn put_first_line(
     put_byte(out, f, b'\n')
 }
 
-// The line of station s, up to its stage.
-fn put_stage_part(out: &mut [u8], at: usize, s: u8, stage: Stage) -> usize
-    ensures { λ x. ⌜ Wrote 30 (now (out .entry)) at (stage-part s stage) (now (out .exit)) x ⌝ }
-{
-    let a = put_number(out, at, s as usize);
-    let b = put_byte(out, a, b' ');
-    let c = put_stage(out, b, stage);
-    put_byte(out, c, b' ')
-}
-
-// The line of a station, from its decision on.
-fn put_standing_part(
-    out: &mut [u8],
-    at: usize,
-    decided: bool,
-    claim: Word,
-    votes: usize,
-    lost: bool,
-) -> usize
-    ensures { λ x. ⌜ Wrote 60 (now (out .entry)) at (standing-part decided claim votes lost) (now (out .exit)) x ⌝ }
-{
-    let a = put_decision(out, at, decided, claim);
-    let b = put_named(out, a, b" votes ", votes);
-    let c = put_presence(out, b, lost);
-    put_byte(out, c, b'\n')
-}
-
 // The votes that LOOK shows: none where the record is faulty.
 fn shown_votes(n: u8, rule: u8, faulty: bool, t: Station) -> usize
     ensures { λ x. ⌜ x ≡ cond faulty 0 (votes n rule t (t .stage)) ⌝ }
@@ -158,6 +131,12 @@ pub(crate) fn put_station_line(
     let decided = !faulty & is_decided(stage);
     let claim = shown_claim(t);
     let votes = shown_votes(n, rule, faulty, t);
-    let next = put_stage_part(out, at, s, stage);
-    put_standing_part(out, next, decided, claim, votes, t.lost)
+    let a = put_number(out, at, s as usize);
+    let b = put_byte(out, a, b' ');
+    let c = put_stage(out, b, stage);
+    let d = put_byte(out, c, b' ');
+    let e = put_decision(out, d, decided, claim);
+    let f = put_named(out, e, b" votes ", votes);
+    let g = put_presence(out, f, t.lost);
+    put_byte(out, g, b'\n')
 }
