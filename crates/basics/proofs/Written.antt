@@ -6,7 +6,7 @@ use native.Mathlib.Nat.{zero-add, add-zero, add-suc, suc-add}
 use native.Mathlib.Omega.{arith}
 use borrow.Author.Tests.{le-leb, lt-leb, leb-true, leb-false}
 use lib.Dec.{leb}
-use lib.ListN.{length, drop, set, length-append}
+use lib.ListN.{length, set, length-append}
 use lib.Seq.{sets, sets-eq, length-sets, set-out}
 use Rattle.basics.specs.Written.{last-place, place-up-to, Wrote, Filled}
 use Rattle.basics.proofs.Bools.{by-bool}
