@@ -3,7 +3,9 @@
 --     Refusals  chains of refusals taken apart
 --     Below     what is found below n, and what is not
 --     Lists     entries past an array; an entry stored again
+--     Written   bytes after bytes in a lent buffer; a text measured, then written
 pub mod Bools
 pub mod Refusals
 pub mod Below
 pub mod Lists
+pub mod Written

@@ -7,11 +7,11 @@ use lib.Dec.{ltb}
 use lib.ListN.{length}
 use Rattle.settlement.specs.declared.record.Settlement.{Settlement}
 use Rattle.log.specs.Run.{ran}
-use Rattle.report.specs.Text.{settlement-part, first-line, text, too-long}
+use Rattle.report.specs.Text.{first-line, text, too-long}
 use Rattle.report.specs.Report.{limit, text-of, report, Never-empty}
 
 text-not-empty : (r : Settlement) (events taken status : ℕ) → 0 < length (text r events taken status)
-unfolding text first-line settlement-part
+unfolding text first-line
 text-not-empty r events taken status = omega arith
 
 either : (b : Bool) (log : List ℕ) → 0 < length (cond b too-long (text-of (ran log limit)))

@@ -3,7 +3,7 @@
 --     Decimal   a number in decimal
 --     Text      the lines
 --     Report    what is printed for a log
---     Written   bytes written into a lent buffer
+--     Written   a text printed into a lent buffer
 pub mod Quoted
 pub mod Decimal
 pub mod Text

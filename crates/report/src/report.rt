@@ -3,7 +3,7 @@ ghost use Rattle.report.specs.Text.{too-long};
 ghost use Rattle.report.specs.Report.{report};
 ghost use Rattle.report.specs.Written.{Printed};
 use crate::text::report_of;
-use crate::writer::put_word;
+use basics::writer::put_word;
 use log::run::run;
 
 // The longest log that is played, in bytes, and the most events.
@@ -12,9 +12,9 @@ pub const LIMIT: usize = 65536;
 fn report_too_long(out: &mut [u8]) -> usize
     ensures { λ x. ⌜ Printed too-long (now (out .entry)) (now (out .exit)) x ⌝ }
 {
-    let need = put_word(&mut out[..0], 0, b"too long\n");
-    if need <= out.len() {
-        return put_word(out, 0, b"too long\n");
+    let line: &[u8] = b"too long\n";
+    if line.len() <= out.len() {
+        return put_word(out, 0, line);
     }
     0
 }

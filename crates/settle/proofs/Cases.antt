@@ -6,9 +6,9 @@ use Rattle.bits.specs.Words.{withBit, lowAgree, wordWithBit, member, insert}
 use Rattle.bits.specs.Log.{ceilLog2, leastFrom}
 use Rattle.basics.specs.Below.{any-below}
 use Rattle.settlement.specs.Fault.{station-fault, fault}
-use Rattle.event.specs.Tests.{must-wait, takes-last-no}
 use Rattle.settlement.specs.Events.{number, outcome, opened, effect, played}
 use Rattle.basics.specs.Tests.{first-met}
+use Rattle.event.specs.Change.{own-after, ballot-after}
 use Rattle.event.specs.Step.{started, voted, bit-taken, finish-taken, found, sought, stepped}
 use Rattle.settlement.specs.Look.{votes, looked}
 use Rattle.settlement.specs.Link.{record-after}
@@ -18,10 +18,10 @@ use Rattle.field.specs.Field.{length-said, claim-said, field-said, bytes}
 use Rattle.field.specs.Read.{found-in, found-by, found as found-field}
 use Rattle.log.specs.Run.{by-outcome, by-field, by-reading, turn, onwards, by-open, by-first, ran}
 use Rattle.report.specs.Decimal.{digits, decimal}
-use Rattle.report.specs.Text.{settlement-part, run-part, first-line, stage-word, decision-shown, presence, stage-part, standing-part, station-line, station-lines, text}
+use Rattle.report.specs.Text.{first-line, decision-shown, presence, shown-line, station-line, station-lines, text}
 use Rattle.report.specs.Report.{report}
 use Rattle.settle.specs.Cases.{right, starred}
 
 pub starred-right : every right starred ≡ true
-unfolding bit binaryDigits digitsIn withBit lowAgree wordWithBit member insert ceilLog2 leastFrom any-below station-fault fault first-met must-wait takes-last-no number started voted bit-taken finish-taken found sought stepped outcome opened effect played votes looked record-after row-with length-said claim-said field-said bytes found-in found-by found-field by-outcome by-field by-reading turn onwards by-open by-first ran digits decimal settlement-part run-part first-line stage-word decision-shown presence stage-part standing-part station-line station-lines text report
+unfolding bit binaryDigits digitsIn withBit lowAgree wordWithBit member insert ceilLog2 leastFrom any-below station-fault fault first-met number started voted bit-taken finish-taken found sought stepped own-after ballot-after outcome opened effect played votes looked record-after row-with length-said claim-said field-said bytes found-in found-by found-field by-outcome by-field by-reading turn onwards by-open by-first ran digits decimal first-line decision-shown presence shown-line station-line station-lines text report
 starred-right = refl

@@ -16,4 +16,4 @@ within-by true t before after count w c =
 within-by false t before after count w c = subst (λ (n : ℕ). n ≤ length after) (sym c) zero-le
 
 pub within : (t before after : List ℕ) (count : ℕ) → Printed t before after count → count ≤ length after
-within t before after count p = within-by (leb (length t) (length before)) t before after count (p .written) (p .counted)
+within t before after count p = within-by (leb (length t) (length before)) t before after count (p .filled .written) (p .filled .counted)

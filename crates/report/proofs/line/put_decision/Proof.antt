@@ -1,13 +1,10 @@
 -- `report::line::put_decision`: each branch writes what the definition shows for it. Assumes nothing.
 use native.Mathlib.Omega.{arith}
 use Rattle.report.specs.Text.{decision-shown}
-use Rattle.report.proofs.Written.{at-most}
+use Rattle.basics.proofs.Written.{at-most}
 use borrow.Author.Needs.{needs}
 use Rattle.report.proofs.line.put_decision.Statement.{statement}
 use Rattle.report.proofs.line.put_decision.Tie as tie
-
-cast-put-number : tie.Need-cast-put-number
-cast-put-number c = search needs
 
 put-number-requires : tie.Need-put-number-requires
 put-number-requires c κs = search needs
@@ -17,8 +14,7 @@ same-length c = search needs
 
 returns : tie.Need-returns
 unfolding decision-shown
-returns c =
-    rw (c .before .before .before .before .before .if1 .taken) (c .before .before .put-number .ensures)
+returns c = rw (c .before .before .before .before .if1 .taken) (c .before .before .put-number .ensures)
 
 put-byte-requires : tie.Need-put-byte-requires
 put-byte-requires c κs = search needs
@@ -34,11 +30,4 @@ returns-2 c =
 pub put-decision-spec : {M : Type 1} → statement M
 put-decision-spec =
     tie.close
-    (tie.spec
-    cast-put-number
-    put-number-requires
-    same-length
-    returns
-    put-byte-requires
-    same-length-2
-    returns-2)
+    (tie.spec put-number-requires same-length returns put-byte-requires same-length-2 returns-2)

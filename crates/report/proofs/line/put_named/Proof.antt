@@ -1,5 +1,5 @@
 -- `report::line::put_named`: the number is written where the name ends. Assumes nothing.
-use Rattle.report.proofs.Written.{and-then}
+use Rattle.basics.proofs.Written.{and-then}
 use borrow.Author.Needs.{needs}
 use Rattle.report.proofs.line.put_named.Statement.{statement}
 use Rattle.report.proofs.line.put_named.Tie as tie

@@ -1,188 +1,67 @@
--- `report::line::put_stage`: at each stage the arm is the definition's clause for it. Assumes nothing.
+-- `report::line::put_stage`: a stage's word stands in its row of the table. Assumes nothing.
+use Prim.Native.Nat.{_+_, _*_, _-_}
+use mathlib.Core.Path.{_≡_}
 use native.Mathlib.Omega.{arith}
-use Rattle.report.specs.Text.{stage-word}
-use Rattle.report.proofs.Written.{at-most}
+use lib.ListN.{length, take, drop}
+use Rattle.report.specs.Text.{stage-word, words}
+use Rattle.basics.proofs.Written.{at-most}
+use Rattle.report.proofs.Lines.{word-in-row}
 use borrow.Author.Needs.{needs}
 use Rattle.report.proofs.line.put_stage.Statement.{statement}
 use Rattle.report.proofs.line.put_stage.Tie as tie
 
-enum-told : tie.Need-enum-told
-enum-told c = search needs
+slice-aggregate-words : tie.Need-slice-aggregate-words
+slice-aggregate-words c = search needs
 
-slice-aggregate-put-word : tie.Need-slice-aggregate-put-word
-slice-aggregate-put-word c = search needs
+word-row-requires : tie.Need-word-row-requires
+word-row-requires c κs = search needs
+
+mul-start : tie.Need-mul-start
+mul-start c = search needs
+
+word-length-requires : tie.Need-word-length-requires
+word-length-requires c κs = search needs
+
+add-end : tie.Need-add-end
+add-end c = search needs
+
+sub-put-word : tie.Need-sub-put-word
+sub-put-word c = search needs
+
+part-put-word-start : tie.Need-part-put-word-start
+part-put-word-start c = search needs
+
+part-put-word-end : tie.Need-part-put-word-end
+part-put-word-end c = search needs
 
 put-word-requires : tie.Need-put-word-requires
 put-word-requires c κs = search needs
-
-enum-told-2 : tie.Need-enum-told-2
-enum-told-2 c = search needs
-
-slice-aggregate-put-word-2 : tie.Need-slice-aggregate-put-word-2
-slice-aggregate-put-word-2 c = search needs
-
-put-word-requires-2 : tie.Need-put-word-requires-2
-put-word-requires-2 c κs = search needs
-
-enum-told-3 : tie.Need-enum-told-3
-enum-told-3 c = search needs
-
-slice-aggregate-put-word-3 : tie.Need-slice-aggregate-put-word-3
-slice-aggregate-put-word-3 c = search needs
-
-put-word-requires-3 : tie.Need-put-word-requires-3
-put-word-requires-3 c κs = search needs
-
-enum-told-4 : tie.Need-enum-told-4
-enum-told-4 c = search needs
-
-slice-aggregate-put-word-4 : tie.Need-slice-aggregate-put-word-4
-slice-aggregate-put-word-4 c = search needs
-
-put-word-requires-4 : tie.Need-put-word-requires-4
-put-word-requires-4 c κs = search needs
-
-enum-told-5 : tie.Need-enum-told-5
-enum-told-5 c = search needs
-
-slice-aggregate-put-word-5 : tie.Need-slice-aggregate-put-word-5
-slice-aggregate-put-word-5 c = search needs
-
-put-word-requires-5 : tie.Need-put-word-requires-5
-put-word-requires-5 c κs = search needs
-
-enum-told-6 : tie.Need-enum-told-6
-enum-told-6 c = search needs
-
-slice-aggregate-put-word-6 : tie.Need-slice-aggregate-put-word-6
-slice-aggregate-put-word-6 c = search needs
-
-put-word-requires-6 : tie.Need-put-word-requires-6
-put-word-requires-6 c κs = search needs
-
-enum-told-7 : tie.Need-enum-told-7
-enum-told-7 c = search needs
-
-slice-aggregate-put-word-7 : tie.Need-slice-aggregate-put-word-7
-slice-aggregate-put-word-7 c = search needs
-
-put-word-requires-7 : tie.Need-put-word-requires-7
-put-word-requires-7 c κs = search needs
-
-enum-told-8 : tie.Need-enum-told-8
-enum-told-8 c = search needs
-
-slice-aggregate-put-word-8 : tie.Need-slice-aggregate-put-word-8
-slice-aggregate-put-word-8 c = search needs
-
-put-word-requires-8 : tie.Need-put-word-requires-8
-put-word-requires-8 c κs = search needs
 
 same-length : tie.Need-same-length
 same-length c = search needs
 
 returns : tie.Need-returns
-unfolding stage-word
 returns c =
-    rw (c .before .before .before .before .before .enum-told .given .1) (at-most {m = 4} (omega arith) (c .before .before .put-word .ensures))
-
-same-length-2 : tie.Need-same-length-2
-same-length-2 c = search needs
-
-returns-2 : tie.Need-returns-2
-unfolding stage-word
-returns-2 c =
-    rw (c .before .before .before .before .before .enum-told2 .given .1) (at-most {m = 7} (omega arith) (c .before .before .put-word2 .ensures))
-
-same-length-3 : tie.Need-same-length-3
-same-length-3 c = search needs
-
-returns-3 : tie.Need-returns-3
-unfolding stage-word
-returns-3 c =
-    rw (c .before .before .before .before .before .enum-told3 .given .1) (at-most {m = 6} (omega arith) (c .before .before .put-word3 .ensures))
-
-same-length-4 : tie.Need-same-length-4
-same-length-4 c = search needs
-
-returns-4 : tie.Need-returns-4
-unfolding stage-word
-returns-4 c =
-    rw (c .before .before .before .before .before .enum-told4 .given .1) (at-most {m = 8} (omega arith) (c .before .before .put-word4 .ensures))
-
-same-length-5 : tie.Need-same-length-5
-same-length-5 c = search needs
-
-returns-5 : tie.Need-returns-5
-unfolding stage-word
-returns-5 c =
-    rw (c .before .before .before .before .before .enum-told5 .given .1) (at-most {m = 7} (omega arith) (c .before .before .put-word5 .ensures))
-
-same-length-6 : tie.Need-same-length-6
-same-length-6 c = search needs
-
-returns-6 : tie.Need-returns-6
-unfolding stage-word
-returns-6 c =
-    rw (c .before .before .before .before .before .enum-told6 .given .1) (at-most {m = 6} (omega arith) (c .before .before .put-word6 .ensures))
-
-same-length-7 : tie.Need-same-length-7
-same-length-7 c = search needs
-
-returns-7 : tie.Need-returns-7
-unfolding stage-word
-returns-7 c =
-    rw (c .before .before .before .before .before .enum-told7 .given .1) (at-most {m = 8} (omega arith) (c .before .before .put-word7 .ensures))
-
-same-length-8 : tie.Need-same-length-8
-same-length-8 c = search needs
-
-returns-8 : tie.Need-returns-8
-unfolding stage-word
-returns-8 c =
-    rw (c .before .before .before .before .before .enum-told8 .given .1) (at-most {m = 7} (omega arith) (c .before .before .put-word8 .ensures))
+    let count = c .before .before .before .before .before in
+    let row = count .before .word-row in
+    let g = count .before .before .before .before .args .stage in
+    let size : 8 * row .result + count .word-length .result - 8 * row .result ≡ length (stage-word g) = omega arith in
+    let e : take (8 * row .result + count .word-length .result - 8 * row .result) (drop (8 * row .result) words) ≡ stage-word g =
+    rw (size, row .ensures .0) (word-in-row g) in
+    at-most {m = length (stage-word g)} (omega arith) (rw e at (c .before .before .put-word .ensures))
 
 pub put-stage-spec : {M : Type 1} → statement M
 put-stage-spec =
     tie.close
     (tie.spec
-    enum-told
-    slice-aggregate-put-word
+    slice-aggregate-words
+    word-row-requires
+    mul-start
+    word-length-requires
+    add-end
+    sub-put-word
+    part-put-word-start
+    part-put-word-end
     put-word-requires
-    enum-told-2
-    slice-aggregate-put-word-2
-    put-word-requires-2
-    enum-told-3
-    slice-aggregate-put-word-3
-    put-word-requires-3
-    enum-told-4
-    slice-aggregate-put-word-4
-    put-word-requires-4
-    enum-told-5
-    slice-aggregate-put-word-5
-    put-word-requires-5
-    enum-told-6
-    slice-aggregate-put-word-6
-    put-word-requires-6
-    enum-told-7
-    slice-aggregate-put-word-7
-    put-word-requires-7
-    enum-told-8
-    slice-aggregate-put-word-8
-    put-word-requires-8
     same-length
-    returns
-    same-length-2
-    returns-2
-    same-length-3
-    returns-3
-    same-length-4
-    returns-4
-    same-length-5
-    returns-5
-    same-length-6
-    returns-6
-    same-length-7
-    returns-7
-    same-length-8
-    returns-8)
+    returns)

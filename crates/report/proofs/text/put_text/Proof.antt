@@ -1,6 +1,6 @@
 -- `report::text::put_text`: the stations' lines are written where line one ends, so together they are the text. Assumes nothing.
 use Rattle.report.specs.Text.{text}
-use Rattle.report.proofs.Written.{and-then}
+use Rattle.basics.proofs.Written.{and-then}
 use borrow.Author.Needs.{needs}
 use Rattle.report.proofs.text.put_text.Statement.{statement}
 use Rattle.report.proofs.text.put_text.Tie as tie

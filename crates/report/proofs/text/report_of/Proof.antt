@@ -1,10 +1,14 @@
--- `report::text::report_of`: the text is measured on an empty part, and written where it fits. Assumes nothing.
+-- `report::text::report_of`: the text by entries is the record's; it is measured on an empty part, and written where it fits. Assumes nothing.
 use denote.Ref.{now}
 use lib.Dec.{lit≤}
-use Rattle.report.proofs.Written.{fits, unfit}
+use Rattle.report.proofs.Printed.{printed, not-printed}
+use Rattle.report.proofs.Lines.{text-by-entries}
 use borrow.Author.Needs.{needs}
 use Rattle.report.proofs.text.report_of.Statement.{statement}
 use Rattle.report.proofs.text.report_of.Tie as tie
+
+faulty-requires : tie.Need-faulty-requires
+faulty-requires c κs = search needs
 
 slice-relend-prefix-put-text : tie.Need-slice-relend-prefix-put-text
 slice-relend-prefix-put-text c = search needs
@@ -24,19 +28,25 @@ same-length c = search needs
 returns : tie.Need-returns
 returns c =
     let measured = c .before .before .before .before .before .before .before in
-    fits (now (measured .before .before .before .args .out)) (measured .put-text .ensures) (lit≤ tt) (c .before .before .before .before .if1 .taken) (c .before .before .put-text2 .ensures)
+    let tested = measured .before .before .before in
+    rw (← text-by-entries, ← tested .faulty .ensures)
+    (printed (now (tested .before .before .args .out)) (measured .put-text .ensures) (lit≤ tt) (c .before .before .before .before .if1 .taken) (c .before .before .put-text2 .ensures))
 
 same-length-2 : tie.Need-same-length-2
 same-length-2 c = search needs
 
 returns-2 : tie.Need-returns-2
 returns-2 c =
-    unfit (now (c .before .before .before .before .before .before .args .out)) (c .before .before .before .put-text .ensures) (lit≤ tt) (c .if1 .left)
+    let measured = c .before .before .before in
+    let tested = measured .before .before .before in
+    rw (← text-by-entries, ← tested .faulty .ensures)
+    (not-printed (now (tested .before .before .args .out)) (measured .put-text .ensures) (lit≤ tt) (c .if1 .left))
 
 pub report-of-spec : {M : Type 1} → statement M
 report-of-spec =
     tie.close
     (tie.spec
+    faulty-requires
     slice-relend-prefix-put-text
     slice-aggregate-put-text
     put-text-requires

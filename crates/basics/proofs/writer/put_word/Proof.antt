@@ -1,4 +1,4 @@
--- `report::writer::put_word`: byte by byte; the measure is what is left of the word. Assumes nothing.
+-- `basics::writer::put_word`: byte by byte; the measure is what is left of the word. Assumes nothing.
 use Prim.Native.Nat.{_-_, _≤_}
 use mathlib.Core.Path.{_≡_}
 use native.Mathlib.Omega.{arith}
@@ -6,10 +6,10 @@ use native.Mathlib.Numerals.{add-one}
 use lib.ListN.{length, take}
 use lib.Seq.{take-suc, take-all}
 use denote.Ref.{now}
-use Rattle.report.specs.Written.{Wrote}
-use Rattle.report.proofs.Written.{and-then, nothing, kept}
-use Rattle.report.proofs.writer.put_word.Statement.{statement}
-use Rattle.report.proofs.writer.put_word.Tie as tie
+use Rattle.basics.specs.Written.{Wrote}
+use Rattle.basics.proofs.Written.{and-then, nothing, kept}
+use Rattle.basics.proofs.writer.put_word.Statement.{statement}
+use Rattle.basics.proofs.writer.put_word.Tie as tie
 
 abbrev Inv-loop : tie.InvT-loop
 Inv-loop out₀ at word next₀ i₀ out next i = (i ≤ length word) × Wrote i out₀ at (take i word) out next
@@ -18,13 +18,13 @@ abbrev μ-loop : tie.MeasureT-loop
 μ-loop out₀ at word next₀ i₀ out next i = length word - i
 
 loop-holds : tie.Need-loop-holds Inv-loop μ-loop
-loop-holds c = (omega arith, nothing (now (c .before .before .args .out)) (c .before .before .args .at))
+loop-holds c = (omega arith, nothing (now (c .before .before .args .out)) (c .before .before .args .at) (omega arith) (omega arith))
 
 shared-slice-read-put-byte : tie.Need-shared-slice-read-put-byte Inv-loop μ-loop
 shared-slice-read-put-byte c = omega arith
 
 put-byte-requires : tie.Need-put-byte-requires Inv-loop μ-loop
-put-byte-requires c κs = omega (arith, c .before .before .before .loop .inv .1 .short)
+put-byte-requires c κs = tt
 
 add-i : tie.Need-add-i Inv-loop μ-loop
 add-i c = omega arith
