@@ -1,7 +1,7 @@
 -- What one accepted STEP does (document 01, "What one STEP does"): the station's entry after it, and the ballot's. "What a step does not name stays."
 -- Assumes nothing.
 use Prim.Native.Nat.{ℕ, _+_, _%_}
-use mathlib.Core.Bool.{cond, _&&_}
+use mathlib.Core.Bool.{Bool, cond, _&&_}
 use lib.Dec.{eqb}
 use Rattle.bits.specs.Digits.{bit}
 use Rattle.bits.specs.Log.{ceilLog2}
@@ -70,10 +70,13 @@ stepped v s FinishVoting = staged FinishAwaiting (v .own)
 stepped v s FinishAwaiting = finish-taken v
 stepped v s Decided = v .own
 
--- the ballot's entry after it. "Rule 1 casts bit k of j in ballot k. Rule 2 casts bit k of the claim of j in ballot 2k; in ballot 2k+1 it casts 1 if d
--- equals the whole claim of j, otherwise 0"
+-- "Rule 1 casts bit k of j in ballot k. Rule 2 casts bit k of the claim of j in ballot 2k"
+abbrev pub bit-voted : View → Bool
+bit-voted v = bit (v .own .round) (spelled (v .rule) (v .own .cursor) (v .beside .claim))
+
+-- the ballot's entry after it: "in ballot 2k+1 it casts 1 if d equals the whole claim of j, otherwise 0"
 unfoldable pub voted : View → Stage → Ballot
 voted v g =
     cond (at Voting g)
-    (casting (bit (v .own .round) (spelled (v .rule) (v .own .cursor) (v .beside .claim))) (v .ballot))
+    (casting (bit-voted v) (v .ballot))
     (cond (at FinishVoting g) (casting (eqb (v .own .word) (v .beside .claim)) (v .ballot)) (v .ballot))

@@ -7,9 +7,7 @@ use crate::number::answer_number;
 use crate::number::claim_number;
 use crate::number::deliver_number;
 use crate::number::lose_number;
-use crate::number::step_number;
-use crate::step::stepped;
-use crate::step::voted;
+use crate::step::step_change;
 use crate::view::View;
 use entry::changed::answering;
 use entry::changed::claiming;
@@ -41,11 +39,7 @@ pub fn change_of(v: View, e: Event) -> Change
             own: holding(own, t),
             ballot,
         },
-        Event::Step { s } => Change {
-            number: step_number(v, s),
-            own: stepped(v, s),
-            ballot: voted(v),
-        },
+        Event::Step { s } => step_change(v, s),
         Event::Lose { s } => Change {
             number: lose_number(v, s),
             own: losing(own),

@@ -1,18 +1,13 @@
-// What each event is refused for: the first test met gives the number.
+// What each event but STEP is refused for: the first test met gives the number.
 ghost use mathlib.Core.Path.{_≡_};
 ghost use Rattle.basics.specs.Tests.{first-met};
-ghost use Rattle.event.specs.Tests.{claim-tests, deliver-tests, must-wait, takes-last-no, step-tests, lose-tests, answer-tests};
+ghost use Rattle.event.specs.Tests.{claim-tests, deliver-tests, lose-tests, answer-tests};
 use crate::view::View;
 use basics::refusal::refuse;
 use bits::mask::mask_has;
-use entry::entry::BALLOT_ENTRIES;
-use entry::entry::Stage;
 use entry::reading::ballot_count;
-use entry::reading::finish_ballot;
 use entry::reading::no_station;
 use entry::reading::was_cast;
-use entry::stage::is_at;
-use entry::stage::is_decided;
 use entry::stage::not_idle;
 
 pub(crate) fn claim_number(v: View, s: u8) -> u8
@@ -36,38 +31,6 @@ pub(crate) fn deliver_number(v: View, t: u8, s: u8) -> u8
         1,
         refuse(own.lost, 2, later),
     )
-}
-
-// Whether station s waits for its own claim or for an answer.
-fn must_wait(v: View, s: u8) -> bool
-    ensures { λ x. ⌜ x ≡ must-wait v s ⌝ }
-{
-    let own = v.own;
-    let ballot = v.ballot;
-    let stage = own.stage;
-    let awaiting = is_at(stage, Stage::Awaiting) | is_at(stage, Stage::FinishAwaiting);
-    (is_at(stage, Stage::Waiting) & !mask_has(own.held, s)) | (awaiting & !ballot.answered)
-}
-
-// Whether the station takes answer 0 from the last ballot.
-fn takes_last_no(v: View) -> bool
-    ensures { λ x. ⌜ x ≡ takes-last-no v ⌝ }
-{
-    let own = v.own;
-    let ballot = v.ballot;
-    let stage = own.stage;
-    let last = finish_ballot(own.round) == BALLOT_ENTRIES - 1;
-    is_at(stage, Stage::FinishAwaiting) & !ballot.answer & last
-}
-
-pub(crate) fn step_number(v: View, s: u8) -> u8
-    ensures { λ x. ⌜ x ≡ first-met (step-tests v s) ⌝ }
-{
-    let own = v.own;
-    let stage = own.stage;
-    let waits = refuse(must_wait(v, s), 8, refuse(takes_last_no(v), 42, 0));
-    let later = refuse(!not_idle(stage), 6, refuse(is_decided(stage), 7, waits));
-    refuse(no_station(v.count, s), 1, refuse(own.lost, 2, later))
 }
 
 pub(crate) fn lose_number(v: View, s: u8) -> u8

@@ -15,7 +15,7 @@ use Rattle.consensus.specs.State as play
 use Rattle.consensus.specs.Rules as rules
 use Rattle.consensus.specs.Rules.{finish-ballot, last-refusal, as-bit, bit-ballot-by}
 use Rattle.basics.specs.Tests.{refuse, first-met}
-use Rattle.basics.proofs.Bools.{by-bool, or-false, not-false→true}
+use Rattle.basics.proofs.Bools.{by-bool, or-none, or-false, not-false→true}
 use Rattle.basics.proofs.Refusals.{refuse-both}
 use Rattle.consensus.proofs.Invariant.{Stage-ok, Inv}
 use Rattle.consensus.proofs.Ballots.{Short}
@@ -45,10 +45,6 @@ not-idle-same Seeking j k d v = refl
 not-idle-same FinishVoting j k d v = refl
 not-idle-same FinishAwaiting j k d v = refl
 not-idle-same Decided j k d v = refl
-
-or-none : (b : Bool) → (b || false) ≡ b
-or-none true = refl
-or-none false = refl
 
 pub answered-same : (t : Ballot) (x : Option Bool) → answer-in t ≡ x → t .answered ≡ play.answered x
 answered-same t x e = by-bool (t .answered) (λ p. p ∙ ap play.answered (sym (ap (λ (b : Bool). cond b (some (t .answer)) none) p) ∙ e)) (λ p. p ∙ ap play.answered (sym (ap (λ (b : Bool). cond b (some (t .answer)) none) p) ∙ e))

@@ -25,14 +25,8 @@ holding-requires c κs = search needs
 enum-known-e-3 : tie.Need-enum-known-e-3
 enum-known-e-3 c = search needs
 
-step-number-requires : tie.Need-step-number-requires
-step-number-requires c κs = search needs
-
-stepped-requires : tie.Need-stepped-requires
-stepped-requires c κs = search needs
-
-voted-requires : tie.Need-voted-requires
-voted-requires c κs = search needs
+step-change-requires : tie.Need-step-change-requires
+step-change-requires c κs = search needs
 
 enum-known-e-4 : tie.Need-enum-known-e-4
 enum-known-e-4 c = search needs
@@ -62,7 +56,7 @@ returns-2 c = rw (c .holding .ensures, c .before .deliver-number .ensures, c .be
 
 returns-3 : tie.Need-returns-3
 unfolding own-after ballot-after
-returns-3 c = rw (c .voted .ensures, c .before .stepped .ensures, c .before .before .step-number .ensures, c .before .before .before .before .e3 .given .1)
+returns-3 c = rw (c .step-change .ensures, c .before .before .e3 .given .1)
 
 returns-4 : tie.Need-returns-4
 unfolding own-after ballot-after
@@ -83,9 +77,7 @@ change-of-spec =
     deliver-number-requires
     holding-requires
     enum-known-e-3
-    step-number-requires
-    stepped-requires
-    voted-requires
+    step-change-requires
     enum-known-e-4
     lose-number-requires
     losing-requires
