@@ -1,7 +1,6 @@
--- Entries of an array as a list: past its end a read gives the default, and a store changes nothing; what stands there may be stored again.
+-- Entries of an array as a list: past its end a read gives the default, and what stands there may be stored again.
 -- Assumes nothing.
 use Prim.Native.Nat.{ℕ, zero, suc, _≤_}
-use native.Mathlib.Nat.{le-of-suc-le-suc, not-suc-le-zero}
 use mathlib.Core.List.{List, [], _∷_, map}
 use mathlib.Core.Path.{_≡_, refl, sym, ap, _∙_}
 use lib.ListN.{length, getD, set, length-map, List·getD-eq-default}
@@ -12,14 +11,6 @@ unmapped-length f l n h = sym (length-map l f) ∙ h
 
 pub read-past : {A : Type 0} (l : List A) (d : A) (n i : ℕ) → length l ≡ n → n ≤ i → d ≡ getD l i d
 read-past l d n i e h = sym (List·getD-eq-default l d (rw e h))
-
-set-after : {A : Type 0} (l : List A) (i : ℕ) (a : A) → length l ≤ i → set l i a ≡ l
-set-after [] i a h = refl
-set-after (x ∷ xs) zero a h = absurd (not-suc-le-zero h)
-set-after (x ∷ xs) (suc i) a h = ap (λ (q : List _). x ∷ q) (set-after xs i a (le-of-suc-le-suc h))
-
-pub set-past : {A : Type 0} (l : List A) (i : ℕ) (a : A) (n : ℕ) → length l ≡ n → n ≤ i → set l i a ≡ l
-set-past l i a n e h = set-after l i a (rw e h)
 
 -- an entry stored again where it stands, or past the end, changes nothing
 pub set-again : {A : Type 0} (l : List A) (i : ℕ) (d : A) → set l i (getD l i d) ≡ l

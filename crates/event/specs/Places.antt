@@ -1,5 +1,6 @@
 -- Where an event looks: its own station, whose entry it may replace; the station beside it; and its ballot, whose entry it may replace.
--- An event that names none of a kind looks at the first, and leaves it as it was. Assumes nothing.
+-- An event that names no station or no ballot looks at the first one and leaves it as it was; one with no station beside it looks at its own there.
+-- Assumes nothing.
 use Prim.Native.Nat.{ℕ, _+_, _%_, _<_}
 use mathlib.Core.Path.{_≡_}
 use mathlib.Core.Bool.{cond, _||_}

@@ -8,7 +8,6 @@ use Rattle.basics.specs.Tests.{Test, when}
 use Rattle.bits.specs.Words.{member}
 use Rattle.consensus.specs.Events.{Event, claim, deliver, step, lose, answer}
 use Rattle.consensus.specs.Rules.{finish-ballot, as-bit}
-use Rattle.entry.specs.declared.entry.Stage.{Stage}
 use Rattle.entry.specs.declared.entry.Stage.the-variants.{Waiting, Awaiting, FinishAwaiting}
 use Rattle.event.specs.declared.view.View.{View}
 use Rattle.entry.specs.Stages.{at, not-idle, is-decided}

@@ -1,12 +1,12 @@
 -- An event may be played on the entries at its places in the arrays. On a record that passes the record test, an event that its first test turns away
 -- has that number wherever it looks; any other looks inside the arrays. Assumes nothing.
 use Prim.Native.Nat.{ℕ, _<_, _≤_}
-use mathlib.Core.Path.{_≡_, refl, sym, _∙_, ap, subst}
+use mathlib.Core.Path.{_≡_, refl, sym, _∙_, ap}
 use mathlib.Core.Bool.{Bool, true, false, not, _||_}
 use native.Mathlib.Nat.{le-refl, lt-of-lt-of-le, mod-lt}
 use native.Mathlib.Omega.{arith}
 use lib.Dec.{eqb, ltb}
-use borrow.Author.Tests.{lt-ltb, ltb-true, eqb-false}
+use borrow.Author.Tests.{lt-ltb, ltb-true}
 use Rattle.basics.specs.Tests.{refuse, first-met}
 use Rattle.basics.proofs.Bools.{by-bool, cond-ind, or-false, not-false→true}
 use Rattle.basics.proofs.Refusals.{refused-not, met}
@@ -15,7 +15,6 @@ use Rattle.bits.proofs.Log.{log-le}
 use Rattle.consensus.specs.Events.{Event, claim, deliver, step, lose, answer}
 use Rattle.entry.specs.declared.entry.Stage.{Stage}
 use Rattle.entry.specs.declared.entry.Stage.the-variants.{Voting, Awaiting, Seeking}
-use Rattle.entry.specs.declared.entry.Station.{Station}
 use Rattle.event.specs.declared.view.View.{View}
 use Rattle.entry.specs.Stages.{at, in-round, on-finish}
 use Rattle.entry.specs.Entries.{stationEntries, ballotEntries, no-station, by-station, ballots}

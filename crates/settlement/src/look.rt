@@ -1,6 +1,5 @@
 // LOOK s.
 ghost use mathlib.Core.Path.{_≡_};
-ghost use mathlib.Core.Bool.{cond};
 ghost use Rattle.basics.specs.Tests.{first-met};
 ghost use Rattle.settlement.specs.Look.{look-tests, votes, shown-claim, looked};
 use crate::fault::faulty;
