@@ -1,15 +1,16 @@
 -- LOOK, whole: number, decided, claim and votes (document 01, "LOOK s"). Assumes nothing.
-use Prim.Native.Nat.{ℕ, _+_, _*_}
+use Prim.Native.Nat.{ℕ, _+_}
 use mathlib.Core.Bool.{false, cond}
 use mathlib.Core.List.{List, [], _∷_}
 use lib.Dec.{eqb}
 use Rattle.basics.specs.Tests.{Test, when, first-met}
 use Rattle.bits.specs.Log.{ceilLog2}
+use Rattle.consensus.specs.Rules.{finish-ballot}
 use Rattle.entry.specs.declared.entry.Stage.{Stage}
 use Rattle.entry.specs.declared.entry.Stage.the-variants.{Idle, Waiting, Voting, Awaiting, Seeking, FinishVoting, FinishAwaiting, Decided}
 use Rattle.entry.specs.declared.entry.Station.{Station}
 use Rattle.entry.specs.Stages.{is-decided}
-use Rattle.entry.specs.Entries.{no-station, by-station}
+use Rattle.entry.specs.Entries.{no-station, by-station, bit-ballot}
 use Rattle.settlement.specs.declared.record.Settlement.{Settlement}
 use Rattle.settlement.specs.declared.record.Standing.{Standing}
 use Rattle.settlement.specs.Record.{entry}
@@ -23,16 +24,17 @@ look-tests r s =
 
 -- "Votes: idle and waiting 0; rule 1 k when voting, k + 1 when awaiting or seeking, R when decided;
 -- rule 2 2k before the bit vote, 2k + 1 after it and before the finish vote, 2k + 2 after."
+-- The ballots of a rule are voted in one after the other: before a ballot, its number is how many votes there were (k or 2k, and 2k + 1).
 -- A record that passes the record test has no station on a finish ballot under rule 1.
 unfoldable pub votes : (n rule : ℕ) → Station → Stage → ℕ
 votes n rule t Idle = 0
 votes n rule t Waiting = 0
-votes n rule t Voting = cond (by-station rule) (t .round) (2 * t .round)
-votes n rule t Awaiting = cond (by-station rule) (t .round + 1) (2 * t .round + 1)
-votes n rule t Seeking = cond (by-station rule) (t .round + 1) (2 * t .round + 1)
-votes n rule t FinishVoting = 2 * t .round + 1
-votes n rule t FinishAwaiting = 2 * t .round + 2
-votes n rule t Decided = cond (by-station rule) (ceilLog2 n) (2 * t .round + 2)
+votes n rule t Voting = bit-ballot rule (t .round)
+votes n rule t Awaiting = bit-ballot rule (t .round) + 1
+votes n rule t Seeking = bit-ballot rule (t .round) + 1
+votes n rule t FinishVoting = finish-ballot (t .round)
+votes n rule t FinishAwaiting = finish-ballot (t .round) + 1
+votes n rule t Decided = cond (by-station rule) (ceilLog2 n) (finish-ballot (t .round) + 1)
 
 -- "the claim (0 if undecided)"
 abbrev pub shown-claim : Station → ℕ

@@ -10,6 +10,8 @@ use bits::logarithm::ceil_log2;
 use bits::word::Word;
 use entry::entry::Stage;
 use entry::entry::Station;
+use entry::reading::bit_ballot;
+use entry::reading::finish_ballot;
 use entry::reading::no_station;
 use entry::stage::is_decided;
 use event::place::station_place;
@@ -19,18 +21,22 @@ pub fn votes(n: u8, rule: u8, t: Station) -> usize
     ensures { λ x. ⌜ x ≡ votes n rule t (t .stage) ⌝ }
 {
     let by_station = rule == 1;
-    let k = t.round as usize;
-    let rounds = ceil_log2(n) as usize;
+    let before = bit_ballot(rule, t.round);
+    let finish = finish_ballot(t.round);
     let stage = t.stage;
     match stage {
         Stage::Idle => 0,
         Stage::Waiting => 0,
-        Stage::Voting => if by_station { k } else { 2 * k },
-        Stage::Awaiting => if by_station { k + 1 } else { 2 * k + 1 },
-        Stage::Seeking => if by_station { k + 1 } else { 2 * k + 1 },
-        Stage::FinishVoting => 2 * k + 1,
-        Stage::FinishAwaiting => 2 * k + 2,
-        Stage::Decided => if by_station { rounds } else { 2 * k + 2 },
+        Stage::Voting => before,
+        Stage::Awaiting => before + 1,
+        Stage::Seeking => before + 1,
+        Stage::FinishVoting => finish,
+        Stage::FinishAwaiting => finish + 1,
+        Stage::Decided => if by_station {
+            ceil_log2(n) as usize
+        } else {
+            finish + 1
+        },
     }
 }
 

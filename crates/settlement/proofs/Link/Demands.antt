@@ -35,7 +35,8 @@ use Rattle.entry.specs.declared.entry.Stage.the-variants.{Idle, Waiting, Voting
 use Rattle.entry.specs.declared.entry.Station.{Station}
 use Rattle.settlement.specs.declared.record.Settlement.{Settlement}
 use Rattle.settlement.specs.declared.record.Standing.{Standing}
-use Rattle.entry.specs.Entries.{stationEntries, ballotEntries, blank-station, blank-ballot, no-station, was-cast}
+use Rattle.consensus.specs.Rules.{finish-ballot}
+use Rattle.entry.specs.Entries.{bit-ballot, stationEntries, ballotEntries, blank-station, blank-ballot, no-station, was-cast}
 use Rattle.settlement.specs.Record.{entry}
 use Rattle.entry.specs.Stages.{is-decided}
 use Rattle.settlement.specs.Fault.{fault}
@@ -119,26 +120,22 @@ decision-same FinishVoting j k d v = refl
 decision-same FinishAwaiting j k d v = refl
 decision-same Has-decided j k d v = refl
 
-one-more : (q : Rule) (k : ℕ) → cond (eqb (rule-number q) 1) (k + 1) (2 * k + 1) ≡ suc (rules.bit-ballot-by q k)
-one-more byStation k = add-one k
-one-more byClaim k = add-one (2 * k)
-
 -- votes by stage, for each rule
 votes-same-by : (n : ℕ) (q : Rule) (r : Settlement) → r .count ≡ n → r .rule ≡ rule-number q → (t : Station) (g : Stage)
     → votes (r .count) (r .rule) t g ≡ invariant.votes (record { count = n; rule = q }) (stage-of g (t .cursor) (t .round) (t .word) (t .decision))
 unfolding votes
 votes-same-by n q r c e t Idle = refl
 votes-same-by n q r c e t Waiting = refl
-votes-same-by n q r c e t Voting = ap (λ (x : ℕ). cond (eqb x 1) (t .round) (2 * t .round)) e ∙ bit-ballot-same q (t .round)
-votes-same-by n q r c e t Awaiting = ap (λ (x : ℕ). cond (eqb x 1) (t .round + 1) (2 * t .round + 1)) e ∙ one-more q (t .round)
-votes-same-by n q r c e t Seeking = ap (λ (x : ℕ). cond (eqb x 1) (t .round + 1) (2 * t .round + 1)) e ∙ one-more q (t .round)
+votes-same-by n q r c e t Voting = ap (λ (x : ℕ). bit-ballot x (t .round)) e ∙ bit-ballot-same q (t .round)
+votes-same-by n q r c e t Awaiting = ap (λ (x : ℕ). bit-ballot x (t .round) + 1) e ∙ ap (λ (b : ℕ). b + 1) (bit-ballot-same q (t .round)) ∙ add-one _
+votes-same-by n q r c e t Seeking = ap (λ (x : ℕ). bit-ballot x (t .round) + 1) e ∙ ap (λ (b : ℕ). b + 1) (bit-ballot-same q (t .round)) ∙ add-one _
 votes-same-by n q r c e t FinishVoting = refl
 votes-same-by n q r c e t FinishAwaiting = omega arith
 votes-same-by n q r c e t Has-decided =
-    ap₂ (λ (x m : ℕ). cond (eqb x 1) (ceilLog2 m) (2 * t .round + 2)) e c ∙ all-votes q
+    ap₂ (λ (x m : ℕ). cond (eqb x 1) (ceilLog2 m) (finish-ballot (t .round) + 1)) e c ∙ all-votes q
   where
     all-votes : (q : Rule)
-        → cond (eqb (rule-number q) 1) (ceilLog2 n) (2 * t .round + 2) ≡ invariant.votes-by q (record { count = n; rule = q }) (play.decided (t .decision) (t .round))
+        → cond (eqb (rule-number q) 1) (ceilLog2 n) (finish-ballot (t .round) + 1) ≡ invariant.votes-by q (record { count = n; rule = q }) (play.decided (t .decision) (t .round))
     all-votes byStation = refl
     all-votes byClaim = omega arith
 
