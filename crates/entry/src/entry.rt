@@ -26,13 +26,13 @@ pub enum Stage {
 // `cursor`, `round` and `word` are j, k and d of document 01; `decision` is the claim it decided.
 pub struct Station {
     pub stage: Stage,
-    pub lost: bool,
     pub cursor: u8,
     pub round: u8,
+    pub lost: bool,
     pub held: u32,
-    pub claim: Word,
     pub word: Word,
     pub decision: Word,
+    pub claim: Word,
 }
 
 // A ballot is a binary consensus instance: which bits were cast in it, whether it is answered, and the answer.
