@@ -5,6 +5,6 @@ pub mod change;
 pub mod event;
 mod number;
 pub mod place;
-mod seek;
-mod step;
+pub mod seek;
+pub mod step;
 pub mod view;

@@ -26,13 +26,16 @@ pub fn own_of(e: Event) -> u8
     }
 }
 
-// The next station after j, around the n stations.
+// The next station after j, around the n stations. It divides only where j is no station.
 pub fn next_cursor(n: u8, j: u8) -> u8
     ensures { λ x. ⌜ x ≡ next-cursor n j ⌝ }
 {
     let next = j as u16 + 1;
     if next < (n as u16) {
         return next as u8;
+    }
+    if next == (n as u16) {
+        return 0;
     }
     if n == 0 {
         return 0;

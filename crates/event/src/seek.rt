@@ -35,7 +35,7 @@ fn found(v: View, j: u8) -> Station
 }
 
 // The cursor is on j, whose claim fits, or the station goes on seeking.
-pub(crate) fn sought(v: View, j: u8) -> Station
+pub fn sought(v: View, j: u8) -> Station
     ensures { λ x. ⌜ x ≡ sought v j ⌝ }
 {
     let t = v.own;

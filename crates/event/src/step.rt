@@ -86,7 +86,7 @@ fn bit_voted(v: View) -> bool
 }
 
 // The tests before the stage's own: no such station, and lost.
-fn early(v: View, s: u8, rest: u8) -> u8
+pub fn early(v: View, s: u8, rest: u8) -> u8
     ensures { λ x. ⌜ x ≡ refuse (no-station (v .count) s) 1 (refuse (v .own .lost) 2 rest) ⌝ }
 {
     let own = v.own;

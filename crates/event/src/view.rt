@@ -1,4 +1,5 @@
 // What an event looks at.
+ghost use mathlib.Core.Path.{_≡_};
 use entry::entry::Ballot;
 use entry::entry::Station;
 
@@ -10,4 +11,16 @@ pub struct View {
     pub own: Station,
     pub beside: Station,
     pub ballot: Ballot,
+}
+
+pub fn seen(count: u8, rule: u8, own: Station, beside: Station, ballot: Ballot) -> View
+    ensures { λ x. ⌜ x ≡ record { count = count; rule = rule; own = own; beside = beside; ballot = ballot } ⌝ }
+{
+    View {
+        count,
+        rule,
+        own,
+        beside,
+        ballot,
+    }
 }
