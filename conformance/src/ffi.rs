@@ -57,3 +57,22 @@ impl Subject for Archive {
         unsafe { dagmuize_put(tag, x, y, v, note.as_ptr(), note.len(), buffer.as_mut_ptr(), buffer.len(), place) }
     }
 }
+
+#[cfg(feature = "one_by_one")]
+extern "C" {
+    fn dagmuize_one_by_one(
+        lent: bool,
+        log: *const u8,
+        log_len: usize,
+        limit: usize,
+        out: *mut u8,
+        out_len: usize,
+    ) -> usize;
+}
+
+/// The text of a log that is played one event at a time, each lent or by value, from the archive that
+/// `rt staticlib one_by_one` writes.
+#[cfg(feature = "one_by_one")]
+pub fn one_by_one(lent: bool, log: &[u8], limit: usize, out: &mut [u8]) -> usize {
+    unsafe { dagmuize_one_by_one(lent, log.as_ptr(), log.len(), limit, out.as_mut_ptr(), out.len()) }
+}

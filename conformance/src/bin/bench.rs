@@ -1,4 +1,5 @@
-//! Events per second of the exported report and of the plain one, on the same logs, in turns.
+//! Events per second of the exported report, and of the same by single events, each beside the plain one
+//! on the same logs, in turns.
 //! Nothing here fails on speed. `--self` sets the plain one beside itself.
 
 use conformance::generate::{long_list, Rng};
@@ -15,50 +16,85 @@ const SEED: u64 = 20_260_412;
 const TURNS: usize = 60;
 const TURN: Duration = Duration::from_millis(5);
 
+/// Writes the text of a log, and answers its length.
+type Report = fn(&[u8], &mut [u8]) -> usize;
+
+const PLAIN: Report = |log, out| Plain.report(log, out);
+
+/// A log, and what the row calls it.
+type Named = (String, Vec<u8>);
+
 fn main() {
-    let Some(subject) = subject() else {
+    let Some(library) = library() else {
         eprintln!("bench: built without the archive; only --self can run");
         std::process::exit(2);
     };
     println!("report, events per second: release builds, {TURNS} turns each, buffers not cleared between calls;");
     println!("the ratio is the plain one's over the library's");
     println!("{:<34}{:>7}{:>8}{:>14}{:>14}{:>8}", "log", "bytes", "events", "library", "plain", "ratio");
-    for (name, log) in logs() {
-        one_log(subject, &name, &log);
+    logs().iter().for_each(|log| one_log(library, log));
+    for (name, single) in single_events() {
+        println!("{name}:");
+        few_logs().iter().for_each(|log| one_log(single, log));
     }
-    let [library, plain] = [subject, &Plain].map(stack_bytes);
+    let [library, plain] = [library, PLAIN].map(stack_bytes);
     println!("stack for one report: library {library} bytes, plain {plain} bytes");
 }
 
 /// Bytes of stack under one report of 32 stations.
-fn stack_bytes(subject: &(dyn Subject + Sync)) -> usize {
+fn stack_bytes(report: Report) -> usize {
     let log = full_log(2);
     stack::bytes_used(|| {
-        black_box(subject.report(&log, &mut vec![0; 4096]));
+        black_box(report(&log, &mut vec![0; 4096]));
     })
 }
 
-fn subject() -> Option<&'static (dyn Subject + Sync)> {
-    if std::env::args().any(|word| word == "--self") {
-        return Some(&Plain);
+fn itself() -> bool {
+    std::env::args().any(|word| word == "--self")
+}
+
+fn library() -> Option<Report> {
+    if itself() {
+        return Some(PLAIN);
     }
     #[cfg(feature = "archive")]
-    return Some(&conformance::ffi::Archive);
+    return Some(|log, out| conformance::ffi::Archive.report(log, out));
     #[cfg(not(feature = "archive"))]
     None
 }
 
+/// The report by single events, where the library for it is linked; `play_through` lends a local.
+fn single_events() -> Vec<(&'static str, Report)> {
+    if itself() {
+        return Vec::new();
+    }
+    #[cfg(feature = "one_by_one")]
+    return vec![
+        ("an event by value, `play`", |log, out| conformance::ffi::one_by_one(false, log, MOST, out)),
+        ("a lent event, `play_through`", |log, out| conformance::ffi::one_by_one(true, log, MOST, out)),
+    ];
+    #[cfg(not(feature = "one_by_one"))]
+    Vec::new()
+}
+
 /// Logs that end settled: for each rule, 64 KiB of 2, 8 and 32 stations with claims that come late,
 /// and 32 stations without that delay.
-fn logs() -> Vec<(String, Vec<u8>)> {
-    let mut logs = Vec::new();
-    for rule in [1, 2] {
-        for n in [2, 8, 32] {
-            logs.push((format!("{n} stations, rule {rule}, late claims"), late_log(n, rule)));
-        }
-        logs.push((format!("32 stations, rule {rule}, no delay"), full_log(rule)));
-    }
-    logs
+fn logs() -> Vec<Named> {
+    let of_rule = |rule| [late(2, rule), late(8, rule), late(32, rule), no_delay(rule)];
+    [1, 2].into_iter().flat_map(of_rule).collect()
+}
+
+/// Those that single events are timed on.
+fn few_logs() -> [Named; 4] {
+    [late(2, 1), no_delay(1), late(2, 2), no_delay(2)]
+}
+
+fn late(n: u8, rule: u8) -> Named {
+    (format!("{n} stations, rule {rule}, late claims"), late_log(n, rule))
+}
+
+fn no_delay(rule: u8) -> Named {
+    (format!("32 stations, rule {rule}, no delay"), full_log(rule))
 }
 
 /// 32 stations from their claims to the last decision.
@@ -73,35 +109,35 @@ fn late_log(n: u8, rule: u8) -> Vec<u8> {
     seeking.map(log).find(|log| log.len() <= MOST).expect("a log that fits")
 }
 
-fn one_log(subject: &(dyn Subject + Sync), name: &str, log: &[u8]) {
+fn one_log(library: Report, (name, log): &Named) {
     let mut text = vec![0; 4096];
-    let written = subject.report(log, &mut text);
+    let written = library(log, &mut text);
     assert_eq!(settle(log).as_bytes(), &text[..written], "the library's text is not the model's");
     assert!(settle(log).lines().skip(1).all(|line| line.contains("decided")), "a station is undecided");
     let events = run(log, MOST).events;
-    let [library, plain] = in_turns([subject, &Plain], log, &mut text);
+    let [library, plain] = in_turns([library, PLAIN], log, &mut text);
     let rate = |seconds: f64| events as f64 / seconds;
     let (size, ratio) = (log.len(), rate(plain) / rate(library));
     println!("{name:<34}{size:>7}{events:>8}{:>14.0}{:>14.0}{ratio:>8.2}", rate(library), rate(plain));
 }
 
 /// Seconds for one report of each, the fastest of their turns.
-fn in_turns(subjects: [&dyn Subject; 2], log: &[u8], text: &mut [u8]) -> [f64; 2] {
+fn in_turns(reports: [Report; 2], log: &[u8], text: &mut [u8]) -> [f64; 2] {
     let mut fastest = [f64::INFINITY; 2];
     for _ in 0..TURNS {
-        for (i, subject) in subjects.into_iter().enumerate() {
-            fastest[i] = fastest[i].min(one_turn(subject, log, text));
+        for (i, report) in reports.into_iter().enumerate() {
+            fastest[i] = fastest[i].min(one_turn(report, log, text));
         }
     }
     fastest
 }
 
 /// Seconds for one report, over a turn.
-fn one_turn(subject: &dyn Subject, log: &[u8], text: &mut [u8]) -> f64 {
+fn one_turn(report: Report, log: &[u8], text: &mut [u8]) -> f64 {
     let start = Instant::now();
     let mut reports = 0;
     while start.elapsed() < TURN {
-        black_box(subject.report(black_box(log), text));
+        black_box(report(black_box(log), text));
         reports += 1;
     }
     start.elapsed().as_secs_f64() / f64::from(reports)
