@@ -5,7 +5,7 @@ ghost use Rattle.settlement.specs.Events.{played};
 use crate::fault::faulty;
 use crate::record::Outcome;
 use crate::record::Settlement;
-use event::change::change_of;
+use change::change::change_of;
 use event::event::Event;
 use event::place::ballot_of;
 use event::place::ballot_place;

@@ -1,0 +1,49 @@
+// STEP of a seeking station.
+ghost use mathlib.Core.Path.{_≡_};
+ghost use Rattle.event.specs.Step.{next-round, found, sought};
+use bits::logarithm::ceil_log2;
+use bits::mask::mask_has;
+use bits::word::low_bits_agree;
+use entry::changed::moved;
+use entry::entry::Stage;
+use entry::entry::Station;
+use entry::reading::spelled;
+use event::view::View;
+
+// The round after k, in a byte.
+pub(crate) fn next_round(k: u8) -> u8
+    ensures { λ x. ⌜ x ≡ next-round k ⌝ }
+{
+    ((k as u16 + 1) % 256) as u8
+}
+
+// Seeking ends at j.
+fn found(v: View, j: u8) -> Station
+    ensures { λ x. ⌜ x ≡ found v j ⌝ }
+{
+    let t = v.own;
+    let fitting = v.beside;
+    let by_station = v.rule == 1;
+    let last = t.round as u16 + 1 == ceil_log2(v.count) as u16;
+    if by_station {
+        if last {
+            return moved(t, Stage::Decided, j, t.round, t.word, fitting.claim);
+        }
+        return moved(t, Stage::Voting, j, next_round(t.round), t.word, t.decision);
+    }
+    moved(t, Stage::FinishVoting, j, t.round, t.word, t.decision)
+}
+
+// The cursor is on j, whose claim fits, or the station goes on seeking.
+pub fn sought(v: View, j: u8) -> Station
+    ensures { λ x. ⌜ x ≡ sought v j ⌝ }
+{
+    let t = v.own;
+    let beside = v.beside;
+    let fits = mask_has(t.held, j)
+        & low_bits_agree(t.word, spelled(v.rule, j, beside.claim), t.round);
+    if fits {
+        return found(v, j);
+    }
+    moved(t, Stage::Seeking, j, t.round, t.word, t.decision)
+}
