@@ -11,8 +11,8 @@ use Rattle.basics.specs.Tests.{refuse}
 use Rattle.event.specs.declared.event.Event.the-variants.{Claim, Deliver, Step, Lose, Answer}
 use Rattle.field.specs.declared.field.Field.{Field}
 use Rattle.field.specs.declared.field.Field.the-variants.{Opening, Event, Note}
-use Rattle.field.specs.Field.{bytes}
-use Rattle.field.specs.Put.{too-long, no-room, put-number, put-count}
+use Rattle.put.specs.Bytes.{bytes}
+use Rattle.put.specs.Put.{too-long, no-room, put-number, put-count}
 
 short : (f : Field) (note : List ℕ) → too-long f note ≡ false → length (bytes f note) ≤ 67
 unfolding bytes

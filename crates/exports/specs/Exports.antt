@@ -8,7 +8,7 @@ use Rattle.field.specs.declared.table.Known.{Known}
 use Rattle.field.specs.declared.table.Known.the-variants.{Row, Unknown}
 use Rattle.field.specs.declared.field.Field.{Field}
 use Rattle.field.specs.declared.field.Field.the-variants.{Opening, Event, Note}
-use Rattle.field.specs.Put.{put-number, put-count, put-buffer}
+use Rattle.put.specs.Put.{put-number, put-count, put-buffer}
 
 -- The field of a kind: x and y are its one-byte numbers in the table's order, v is a claim. What the kind does not have says nothing.
 unfoldable pub asked : declared-kind.Kind → (x y v : ℕ) → Field

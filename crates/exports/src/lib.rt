@@ -10,11 +10,11 @@ use bits::word::Word;
 use event::event::Event;
 use field::field::Field;
 use field::head::head_of;
-use field::put::put;
 use field::table::Kind;
 use field::table::Known;
 use field::table::row_with;
 use log::run::run;
+use put::put::put;
 use report::report::report;
 
 #[no_mangle]

@@ -14,8 +14,9 @@ use Rattle.settlement.specs.Look.{votes, looked}
 use Rattle.settlement.specs.Link.{record-after}
 use Rattle.bits.specs.Examples.{every}
 use Rattle.field.specs.Table.{row-with}
-use Rattle.field.specs.Field.{length-said, claim-said, field-said, bytes}
+use Rattle.field.specs.Field.{length-said, claim-said, field-said}
 use Rattle.field.specs.Read.{found-in, found-by, found as found-field}
+use Rattle.put.specs.Bytes.{bytes}
 use Rattle.log.specs.Run.{by-outcome, next-in, by-next, turn, onwards, by-open, by-first, ran}
 use Rattle.report.specs.Decimal.{digits, decimal}
 use Rattle.report.specs.Text.{first-line, decision-shown, presence, shown-line, station-line, station-lines, text}

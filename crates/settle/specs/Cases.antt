@@ -13,7 +13,7 @@ use Rattle.settlement.specs.Link.{record-after, all-accepted}
 use Rattle.event.specs.declared.event.Event.the-variants.{Claim, Deliver, Step, Answer}
 use Rattle.field.specs.declared.field.Field.{Field}
 use Rattle.field.specs.declared.field.Field.the-variants.{Opening as Opens, Event as Is}
-use Rattle.field.specs.Field.{bytes}
+use Rattle.put.specs.Bytes.{bytes}
 use Rattle.log.specs.Run.{ran}
 use Rattle.report.specs.Quoted.{bytes-of}
 use Rattle.report.specs.Report.{report}
