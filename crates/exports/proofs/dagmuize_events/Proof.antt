@@ -3,12 +3,9 @@ use borrow.Author.Needs.{needs}
 use Rattle.exports.proofs.dagmuize_events.Statement.{statement}
 use Rattle.exports.proofs.dagmuize_events.Tie as tie
 
-run-requires : tie.Need-run-requires
-run-requires c κs = search needs
-
 returns : tie.Need-returns
 returns c =
     rw (c .run .ensures)
 
 pub dagmuize-events-spec : {M : Type 1} → statement M
-dagmuize-events-spec = tie.close (tie.spec run-requires returns)
+dagmuize-events-spec = tie.close (tie.spec (λ c κs. search needs) returns)

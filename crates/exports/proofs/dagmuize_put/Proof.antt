@@ -7,24 +7,6 @@ use borrow.Author.Needs.{needs}
 use Rattle.exports.proofs.dagmuize_put.Statement.{statement}
 use Rattle.exports.proofs.dagmuize_put.Tie as tie
 
-row-with-requires : tie.Need-row-with-requires
-row-with-requires c κs = search needs
-
-enum-known-row : tie.Need-enum-known-row
-enum-known-row c = search needs
-
-field-asked-requires : tie.Need-field-asked-requires
-field-asked-requires c κs = search needs
-
-put-requires : tie.Need-put-requires
-put-requires c κs = search needs
-
-cast-result : tie.Need-cast-result
-cast-result c = search needs
-
-mul-result : tie.Need-mul-result
-mul-result c = search needs
-
 cast-result-2 : tie.Need-cast-result-2
 cast-result-2 c =
     let p = c .before .before .before .before in
@@ -39,12 +21,6 @@ add-result c =
 
 enum-told : tie.Need-enum-told
 enum-told c = search needs
-
-mul-result-2 : tie.Need-mul-result-2
-mul-result-2 c = search needs
-
-same-length : tie.Need-same-length
-same-length c = search needs
 
 returns : tie.Need-returns
 unfolding put-answer put-after
@@ -66,16 +42,16 @@ pub dagmuize-put-spec : {M : Type 1} → statement M
 dagmuize-put-spec =
     tie.close
     (tie.spec
-    row-with-requires
-    enum-known-row
-    field-asked-requires
-    put-requires
-    cast-result
-    mul-result
+    (λ c κs. search needs)
+    (λ c. search needs)
+    (λ c κs. search needs)
+    (λ c κs. search needs)
+    (λ c. search needs)
+    (λ c. search needs)
     cast-result-2
     add-result
     enum-told
-    mul-result-2
-    same-length
+    (λ c. search needs)
+    (λ c. search needs)
     returns
     returns-2)

@@ -3,11 +3,8 @@ use borrow.Author.Needs.{needs}
 use Rattle.exports.proofs.dagmuize_read_taken.Statement.{statement}
 use Rattle.exports.proofs.dagmuize_read_taken.Tie as tie
 
-head-of-requires : tie.Need-head-of-requires
-head-of-requires c κs = search needs
-
 returns : tie.Need-returns
 returns c = rw (c .head-of .ensures)
 
 pub dagmuize-read-taken-spec : {M : Type 1} → statement M
-dagmuize-read-taken-spec = tie.close (tie.spec head-of-requires returns)
+dagmuize-read-taken-spec = tie.close (tie.spec (λ c κs. search needs) returns)

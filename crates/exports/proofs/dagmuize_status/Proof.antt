@@ -3,12 +3,9 @@ use borrow.Author.Needs.{needs}
 use Rattle.exports.proofs.dagmuize_status.Statement.{statement}
 use Rattle.exports.proofs.dagmuize_status.Tie as tie
 
-run-requires : tie.Need-run-requires
-run-requires c κs = search needs
-
 returns : tie.Need-returns
 returns c =
     rw (c .run .ensures)
 
 pub dagmuize-status-spec : {M : Type 1} → statement M
-dagmuize-status-spec = tie.close (tie.spec run-requires returns)
+dagmuize-status-spec = tie.close (tie.spec (λ c κs. search needs) returns)

@@ -3,12 +3,9 @@ use borrow.Author.Needs.{needs}
 use Rattle.exports.proofs.dagmuize_taken.Statement.{statement}
 use Rattle.exports.proofs.dagmuize_taken.Tie as tie
 
-run-requires : tie.Need-run-requires
-run-requires c κs = search needs
-
 returns : tie.Need-returns
 returns c =
     rw (c .run .ensures)
 
 pub dagmuize-taken-spec : {M : Type 1} → statement M
-dagmuize-taken-spec = tie.close (tie.spec run-requires returns)
+dagmuize-taken-spec = tie.close (tie.spec (λ c κs. search needs) returns)

@@ -6,17 +6,8 @@ use borrow.Author.Needs.{needs}
 use Rattle.basics.proofs.buffer.set_byte.Statement.{statement}
 use Rattle.basics.proofs.buffer.set_byte.Tie as tie
 
-slice-write-part : tie.Need-slice-write-part
-slice-write-part c = search needs
-
-same-length : tie.Need-same-length
-same-length c = search needs
-
-returns : tie.Need-returns
-returns c = search needs
-
 returns-2 : tie.Need-returns-2
 returns-2 c = sym (set-out (now (c .before .args .part)) (c .before .args .i) (c .before .args .b) (c .if1 .left))
 
 pub set-byte-spec : {M : Type 1} → statement M
-set-byte-spec = tie.close (tie.spec slice-write-part same-length returns returns-2)
+set-byte-spec = tie.close (tie.spec (λ c. search needs) (λ c. search needs) (λ c. search needs) returns-2)

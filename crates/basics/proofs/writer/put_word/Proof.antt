@@ -23,9 +23,6 @@ loop-holds c = (omega arith, nothing (now (c .before .before .args .out)) (c .be
 shared-slice-read-put-byte : tie.Need-shared-slice-read-put-byte Inv-loop μ-loop
 shared-slice-read-put-byte c = omega arith
 
-put-byte-requires : tie.Need-put-byte-requires Inv-loop μ-loop
-put-byte-requires c κs = tt
-
 add-i : tie.Need-add-i Inv-loop μ-loop
 add-i c = omega arith
 
@@ -58,7 +55,7 @@ put-word-spec =
     μ-loop
     loop-holds
     shared-slice-read-put-byte
-    put-byte-requires
+    (λ c κs. tt)
     add-i
     loop-less
     loop-again

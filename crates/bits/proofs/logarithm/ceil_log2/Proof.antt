@@ -12,9 +12,6 @@ use Rattle.bits.proofs.logarithm.ceil_log2.Tie as tie
 returns : tie.Need-returns
 returns c = sym (le-zero (log-le (c .before .args .n) 0 (search needs)))
 
-sub-result : tie.Need-sub-result
-sub-result c = search needs
-
 cast-result : tie.Need-cast-result
 cast-result c = record { fits = lt-of-le-of-lt (leading-le 8 _) (lit< tt) }
 
@@ -25,4 +22,4 @@ returns-2 : tie.Need-returns-2
 returns-2 c = sym (log-rule 8 (c .before .args .n) (search needs))
 
 pub ceil-log2-spec : {M : Type 1} → statement M
-ceil-log2-spec = tie.close (tie.spec returns sub-result cast-result sub-result-2 returns-2)
+ceil-log2-spec = tie.close (tie.spec returns (λ c. search needs) cast-result sub-result-2 returns-2)

@@ -4,12 +4,9 @@ use Rattle.bits.specs.Words.{member}
 use Rattle.bits.proofs.mask.mask_has.Statement.{statement}
 use Rattle.bits.proofs.mask.mask_has.Tie as tie
 
-bit-at-requires : tie.Need-bit-at-requires
-bit-at-requires c κs = search needs
-
 returns : tie.Need-returns
 unfolding member
 returns c = c .bit-at .ensures
 
 pub mask-has-spec : {M : Type 1} → statement M
-mask-has-spec = tie.close (tie.spec bit-at-requires returns)
+mask-has-spec = tie.close (tie.spec (λ c κs. search needs) returns)

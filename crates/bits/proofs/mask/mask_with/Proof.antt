@@ -12,9 +12,6 @@ returns : tie.Need-returns
 unfolding insert
 returns c = sym (word-outside maskBits (c .before .args .s) true (c .before .args .mask) (c .if1 .taken))
 
-with-bit-requires : tie.Need-with-bit-requires
-with-bit-requires c κs = search needs
-
 returns-2 : tie.Need-returns-2
 unfolding insert
 returns-2 c =
@@ -23,4 +20,4 @@ returns-2 c =
     ∙ sym (word-inside maskBits (a .s) true (a .mask) (omega arith))
 
 pub mask-with-spec : {M : Type 1} → statement M
-mask-with-spec = tie.close (tie.spec returns with-bit-requires returns-2)
+mask-with-spec = tie.close (tie.spec returns (λ c κs. search needs) returns-2)

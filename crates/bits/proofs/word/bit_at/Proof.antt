@@ -9,11 +9,8 @@ use Rattle.bits.proofs.word.bit_at.Tie as tie
 returns : tie.Need-returns
 returns c = sym (bit-above claimBits (c .before .args .x) (search needs) (c .before .args .k) (c .if1 .taken))
 
-shr-result : tie.Need-shr-result
-shr-result c = search needs
-
 returns-2 : tie.Need-returns-2
 returns-2 c = sym (bit-div (c .before .args .k) (c .before .args .x))
 
 pub bit-at-spec : {M : Type 1} → statement M
-bit-at-spec = tie.close (tie.spec returns shr-result returns-2)
+bit-at-spec = tie.close (tie.spec returns (λ c. search needs) returns-2)

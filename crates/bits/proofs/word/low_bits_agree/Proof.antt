@@ -5,20 +5,8 @@ use Rattle.bits.proofs.Machine.{power-positive, agree-made, agree-whole
 use Rattle.bits.proofs.word.low_bits_agree.Statement.{statement}
 use Rattle.bits.proofs.word.low_bits_agree.Tie as tie
 
-sub-if1 : tie.Need-sub-if1
-sub-if1 c = search needs
-
 returns : tie.Need-returns
 returns c = agree-whole claimBits (c .before .args .k) (c .before .args .a) (c .before .args .b) (search needs) (search needs) (search needs)
-
-add-power : tie.Need-add-power
-add-power c = search needs
-
-cast-power : tie.Need-cast-power
-cast-power c = search needs
-
-shl-power : tie.Need-shl-power
-shl-power c = search needs
 
 rem-result : tie.Need-rem-result
 rem-result c = power-positive claimBits _ (search needs)
@@ -32,4 +20,4 @@ returns-2 c = agree-made claimBits (c .before .args .k) (c .before .args .a) (c 
 pub low-bits-agree-spec : {M : Type 1} → statement M
 low-bits-agree-spec =
     tie.close
-    (tie.spec sub-if1 returns add-power cast-power shl-power rem-result rem-result-2 returns-2)
+    (tie.spec (λ c. search needs) returns (λ c. search needs) (λ c. search needs) (λ c. search needs) rem-result rem-result-2 returns-2)

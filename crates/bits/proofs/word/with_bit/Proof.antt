@@ -10,25 +10,10 @@ use Rattle.bits.proofs.word.with_bit.Tie as tie
 returns : tie.Need-returns
 returns c = sym (word-outside claimBits (c .before .args .k) (c .before .args .b) (c .before .args .x) (c .if1 .taken))
 
-bit-at-requires : tie.Need-bit-at-requires
-bit-at-requires c κs = search needs
-
-cast-old : tie.Need-cast-old
-cast-old c = search needs
-
-cast-new : tie.Need-cast-new
-cast-new c = search needs
-
-shl-result : tie.Need-shl-result
-shl-result c = search needs
-
 sub-result : tie.Need-sub-result
 sub-result c =
     let a = c .before .before .args in
     word-taken claimBits (a .k) (a .x) (c .bit-at .result) (c .before .if1 .left) (c .bit-at .ensures)
-
-shl-result-2 : tie.Need-shl-result-2
-shl-result-2 c = search needs
 
 returns-2 : tie.Need-returns-2
 returns-2 c =
@@ -45,11 +30,11 @@ with-bit-spec =
     tie.close
     (tie.spec
     returns
-    bit-at-requires
-    cast-old
-    cast-new
-    shl-result
+    (λ c κs. search needs)
+    (λ c. search needs)
+    (λ c. search needs)
+    (λ c. search needs)
     sub-result
-    shl-result-2
+    (λ c. search needs)
     add-result
     returns-2)

@@ -3,14 +3,8 @@ use borrow.Author.Needs.{needs}
 use Rattle.change.proofs.step.casts.Statement.{statement}
 use Rattle.change.proofs.step.casts.Tie as tie
 
-staged-requires : tie.Need-staged-requires
-staged-requires c κs = search needs
-
-casting-requires : tie.Need-casting-requires
-casting-requires c κs = search needs
-
 returns : tie.Need-returns
 returns c = rw (c .casting .ensures, c .before .staged .ensures)
 
 pub casts-spec : {M : Type 1} → statement M
-casts-spec = tie.close (tie.spec staged-requires casting-requires returns)
+casts-spec = tie.close (tie.spec (λ c κs. search needs) (λ c κs. search needs) returns)

@@ -4,18 +4,9 @@ use borrow.Author.Needs.{needs}
 use Rattle.change.proofs.step.finish_taken.Statement.{statement}
 use Rattle.change.proofs.step.finish_taken.Tie as tie
 
-moved-requires : tie.Need-moved-requires
-moved-requires c κs = search needs
-
 returns : tie.Need-returns
 unfolding finish-taken
 returns c = rw (c .moved .ensures, c .before .if1 .taken)
-
-next-round-requires : tie.Need-next-round-requires
-next-round-requires c κs = search needs
-
-moved-requires-2 : tie.Need-moved-requires-2
-moved-requires-2 c κs = search needs
 
 returns-2 : tie.Need-returns-2
 unfolding finish-taken
@@ -23,4 +14,4 @@ returns-2 c = rw (c .moved2 .ensures, c .before .next-round .ensures, c .before 
 
 pub finish-taken-spec : {M : Type 1} → statement M
 finish-taken-spec =
-    tie.close (tie.spec moved-requires returns next-round-requires moved-requires-2 returns-2)
+    tie.close (tie.spec (λ c κs. search needs) returns (λ c κs. search needs) (λ c κs. search needs) returns-2)

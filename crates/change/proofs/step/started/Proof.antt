@@ -4,19 +4,13 @@ use borrow.Author.Needs.{needs}
 use Rattle.change.proofs.step.started.Statement.{statement}
 use Rattle.change.proofs.step.started.Tie as tie
 
-moved-requires : tie.Need-moved-requires
-moved-requires c κs = search needs
-
 returns : tie.Need-returns
 unfolding started
 returns c = rw (c .moved .ensures, c .before .if1 .taken)
-
-moved-requires-2 : tie.Need-moved-requires-2
-moved-requires-2 c κs = search needs
 
 returns-2 : tie.Need-returns-2
 unfolding started
 returns-2 c = rw (c .moved2 .ensures, c .before .if1 .left)
 
 pub started-spec : {M : Type 1} → statement M
-started-spec = tie.close (tie.spec moved-requires returns moved-requires-2 returns-2)
+started-spec = tie.close (tie.spec (λ c κs. search needs) returns (λ c κs. search needs) returns-2)

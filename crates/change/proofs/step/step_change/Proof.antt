@@ -11,105 +11,6 @@ use Rattle.change.proofs.step.step_change.Tie as tie
 enum-told : tie.Need-enum-told
 enum-told c = search needs
 
-early-requires : tie.Need-early-requires
-early-requires c κs = search needs
-
-stays-requires : tie.Need-stays-requires
-stays-requires c κs = search needs
-
-enum-told-2 : tie.Need-enum-told-2
-enum-told-2 c = search needs
-
-mask-has-requires : tie.Need-mask-has-requires
-mask-has-requires c κs = search needs
-
-refuse-requires : tie.Need-refuse-requires
-refuse-requires c κs = search needs
-
-early-requires-2 : tie.Need-early-requires-2
-early-requires-2 c κs = search needs
-
-started-requires : tie.Need-started-requires
-started-requires c κs = search needs
-
-stays-requires-2 : tie.Need-stays-requires-2
-stays-requires-2 c κs = search needs
-
-enum-told-3 : tie.Need-enum-told-3
-enum-told-3 c = search needs
-
-early-requires-3 : tie.Need-early-requires-3
-early-requires-3 c κs = search needs
-
-bit-voted-requires : tie.Need-bit-voted-requires
-bit-voted-requires c κs = search needs
-
-casts-requires : tie.Need-casts-requires
-casts-requires c κs = search needs
-
-enum-told-4 : tie.Need-enum-told-4
-enum-told-4 c = search needs
-
-refuse-requires-2 : tie.Need-refuse-requires-2
-refuse-requires-2 c κs = search needs
-
-early-requires-4 : tie.Need-early-requires-4
-early-requires-4 c κs = search needs
-
-bit-taken-requires : tie.Need-bit-taken-requires
-bit-taken-requires c κs = search needs
-
-stays-requires-3 : tie.Need-stays-requires-3
-stays-requires-3 c κs = search needs
-
-enum-told-5 : tie.Need-enum-told-5
-enum-told-5 c = search needs
-
-early-requires-5 : tie.Need-early-requires-5
-early-requires-5 c κs = search needs
-
-next-cursor-requires : tie.Need-next-cursor-requires
-next-cursor-requires c κs = search needs
-
-sought-requires : tie.Need-sought-requires
-sought-requires c κs = search needs
-
-stays-requires-4 : tie.Need-stays-requires-4
-stays-requires-4 c κs = search needs
-
-enum-told-6 : tie.Need-enum-told-6
-enum-told-6 c = search needs
-
-early-requires-6 : tie.Need-early-requires-6
-early-requires-6 c κs = search needs
-
-casts-requires-2 : tie.Need-casts-requires-2
-casts-requires-2 c κs = search needs
-
-enum-told-7 : tie.Need-enum-told-7
-enum-told-7 c = search needs
-
-unfinished-requires : tie.Need-unfinished-requires
-unfinished-requires c κs = search needs
-
-early-requires-7 : tie.Need-early-requires-7
-early-requires-7 c κs = search needs
-
-finish-taken-requires : tie.Need-finish-taken-requires
-finish-taken-requires c κs = search needs
-
-stays-requires-5 : tie.Need-stays-requires-5
-stays-requires-5 c κs = search needs
-
-enum-told-8 : tie.Need-enum-told-8
-enum-told-8 c = search needs
-
-early-requires-8 : tie.Need-early-requires-8
-early-requires-8 c κs = search needs
-
-stays-requires-6 : tie.Need-stays-requires-6
-stays-requires-6 c κs = search needs
-
 returns : tie.Need-returns
 unfolding first-met own-after ballot-after stepped voted
 returns c = rw (c .stays .ensures, c .before .early .ensures, c .before .before .enum-told .given .1)
@@ -147,39 +48,39 @@ step-change-spec =
     tie.close
     (tie.spec
     enum-told
-    early-requires
-    stays-requires
-    enum-told-2
-    mask-has-requires
-    refuse-requires
-    early-requires-2
-    started-requires
-    stays-requires-2
-    enum-told-3
-    early-requires-3
-    bit-voted-requires
-    casts-requires
-    enum-told-4
-    refuse-requires-2
-    early-requires-4
-    bit-taken-requires
-    stays-requires-3
-    enum-told-5
-    early-requires-5
-    next-cursor-requires
-    sought-requires
-    stays-requires-4
-    enum-told-6
-    early-requires-6
-    casts-requires-2
-    enum-told-7
-    unfinished-requires
-    early-requires-7
-    finish-taken-requires
-    stays-requires-5
-    enum-told-8
-    early-requires-8
-    stays-requires-6
+    (λ c κs. search needs)
+    (λ c κs. search needs)
+    (λ c. search needs)
+    (λ c κs. search needs)
+    (λ c κs. search needs)
+    (λ c κs. search needs)
+    (λ c κs. search needs)
+    (λ c κs. search needs)
+    (λ c. search needs)
+    (λ c κs. search needs)
+    (λ c κs. search needs)
+    (λ c κs. search needs)
+    (λ c. search needs)
+    (λ c κs. search needs)
+    (λ c κs. search needs)
+    (λ c κs. search needs)
+    (λ c κs. search needs)
+    (λ c. search needs)
+    (λ c κs. search needs)
+    (λ c κs. search needs)
+    (λ c κs. search needs)
+    (λ c κs. search needs)
+    (λ c. search needs)
+    (λ c κs. search needs)
+    (λ c κs. search needs)
+    (λ c. search needs)
+    (λ c κs. search needs)
+    (λ c κs. search needs)
+    (λ c κs. search needs)
+    (λ c κs. search needs)
+    (λ c. search needs)
+    (λ c κs. search needs)
+    (λ c κs. search needs)
     returns
     returns-2
     returns-3

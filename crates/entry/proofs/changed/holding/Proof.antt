@@ -3,11 +3,8 @@ use borrow.Author.Needs.{needs}
 use Rattle.entry.proofs.changed.holding.Statement.{statement}
 use Rattle.entry.proofs.changed.holding.Tie as tie
 
-mask-with-requires : tie.Need-mask-with-requires
-mask-with-requires c κs = search needs
-
 returns : tie.Need-returns
 returns c = rw (c .mask-with .ensures)
 
 pub holding-spec : {M : Type 1} → statement M
-holding-spec = tie.close (tie.spec mask-with-requires returns)
+holding-spec = tie.close (tie.spec (λ c κs. search needs) returns)

@@ -6,12 +6,6 @@ use Rattle.entry.proofs.reading.ballot_count.Tie as tie
 returns : tie.Need-returns
 returns c = rw (c .if1 .taken)
 
-ceil-log2-requires : tie.Need-ceil-log2-requires
-ceil-log2-requires c κs = search needs
-
-cast-result : tie.Need-cast-result
-cast-result c = search needs
-
 returns-2 : tie.Need-returns-2
 returns-2 c = rw (c .before .before .if1 .left, c .before .if2 .taken, c .ceil-log2 .ensures)
 
@@ -19,4 +13,4 @@ returns-3 : tie.Need-returns-3
 returns-3 c = rw (c .before .if1 .left, c .if2 .left)
 
 pub ballot-count-spec : {M : Type 1} → statement M
-ballot-count-spec = tie.close (tie.spec returns ceil-log2-requires cast-result returns-2 returns-3)
+ballot-count-spec = tie.close (tie.spec returns (λ c κs. search needs) (λ c. search needs) returns-2 returns-3)

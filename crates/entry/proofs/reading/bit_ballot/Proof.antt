@@ -6,11 +6,8 @@ use Rattle.entry.proofs.reading.bit_ballot.Tie as tie
 returns : tie.Need-returns
 returns c = cc
 
-mul-result : tie.Need-mul-result
-mul-result c = search needs
-
 returns-2 : tie.Need-returns-2
 returns-2 c = cc
 
 pub bit-ballot-spec : {M : Type 1} → statement M
-bit-ballot-spec = tie.close (tie.spec returns mul-result returns-2)
+bit-ballot-spec = tie.close (tie.spec returns (λ c. search needs) returns-2)

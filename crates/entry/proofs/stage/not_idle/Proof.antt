@@ -3,11 +3,8 @@ use borrow.Author.Needs.{needs}
 use Rattle.entry.proofs.stage.not_idle.Statement.{statement}
 use Rattle.entry.proofs.stage.not_idle.Tie as tie
 
-is-at-requires : tie.Need-is-at-requires
-is-at-requires c κs = search needs
-
 returns : tie.Need-returns
 returns c = cc
 
 pub not-idle-spec : {M : Type 1} → statement M
-not-idle-spec = tie.close (tie.spec is-at-requires returns)
+not-idle-spec = tie.close (tie.spec (λ c κs. search needs) returns)

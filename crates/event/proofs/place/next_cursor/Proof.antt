@@ -7,12 +7,6 @@ use borrow.Author.Needs.{needs}
 use Rattle.event.proofs.place.next_cursor.Statement.{statement}
 use Rattle.event.proofs.place.next_cursor.Tie as tie
 
-add-next : tie.Need-add-next
-add-next c = search needs
-
-cast-result : tie.Need-cast-result
-cast-result c = search needs
-
 returns : tie.Need-returns
 returns c = rw (ne-eqb (c .before .args .n) 0 (λ e. omega arith), mod-eq-of-lt (c .if1 .taken))
 
@@ -21,9 +15,6 @@ returns-2 c = rw (ne-eqb (c .before .before .args .n) 0 (λ e. omega arith), c .
 
 returns-3 : tie.Need-returns-3
 returns-3 c = rw (eq-eqb _ 0 (c .if3 .taken))
-
-rem-result : tie.Need-rem-result
-rem-result c = search needs
 
 cast-result-2 : tie.Need-cast-result-2
 cast-result-2 c = let less : (c .before .before .before .args .j + 1) % (c .before .before .before .args .n) < c .before .before .before .args .n = mod-lt _ (omega arith) in
@@ -34,4 +25,4 @@ returns-4 c = rw (ne-eqb _ 0 (c .if3 .left))
 
 pub next-cursor-spec : {M : Type 1} → statement M
 next-cursor-spec =
-    tie.close (tie.spec add-next cast-result returns returns-2 returns-3 rem-result cast-result-2 returns-4)
+    tie.close (tie.spec (λ c. search needs) (λ c. search needs) returns returns-2 returns-3 (λ c. search needs) cast-result-2 returns-4)

@@ -3,12 +3,6 @@ use borrow.Author.Needs.{needs}
 use Rattle.event.proofs.place.step_beside.Statement.{statement}
 use Rattle.event.proofs.place.step_beside.Tie as tie
 
-is-at-requires : tie.Need-is-at-requires
-is-at-requires c κs = search needs
-
-next-cursor-requires : tie.Need-next-cursor-requires
-next-cursor-requires c κs = search needs
-
 returns : tie.Need-returns
 returns c = rw (c .next-cursor .ensures, rw (c .before .before .is-at .ensures) at (c .before .if1 .taken))
 
@@ -16,4 +10,4 @@ returns-2 : tie.Need-returns-2
 returns-2 c = rw (rw (c .before .is-at .ensures) at (c .if1 .left))
 
 pub step-beside-spec : {M : Type 1} → statement M
-step-beside-spec = tie.close (tie.spec is-at-requires next-cursor-requires returns returns-2)
+step-beside-spec = tie.close (tie.spec (λ c κs. search needs) (λ c κs. search needs) returns returns-2)

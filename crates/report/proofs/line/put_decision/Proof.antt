@@ -6,21 +6,9 @@ use borrow.Author.Needs.{needs}
 use Rattle.report.proofs.line.put_decision.Statement.{statement}
 use Rattle.report.proofs.line.put_decision.Tie as tie
 
-put-number-requires : tie.Need-put-number-requires
-put-number-requires c κs = search needs
-
-same-length : tie.Need-same-length
-same-length c = search needs
-
 returns : tie.Need-returns
 unfolding decision-shown
 returns c = rw (c .before .before .before .before .if1 .taken) (c .before .before .put-number .ensures)
-
-put-byte-requires : tie.Need-put-byte-requires
-put-byte-requires c κs = search needs
-
-same-length-2 : tie.Need-same-length-2
-same-length-2 c = search needs
 
 returns-2 : tie.Need-returns-2
 unfolding decision-shown
@@ -30,4 +18,4 @@ returns-2 c =
 pub put-decision-spec : {M : Type 1} → statement M
 put-decision-spec =
     tie.close
-    (tie.spec put-number-requires same-length returns put-byte-requires same-length-2 returns-2)
+    (tie.spec (λ c κs. search needs) (λ c. search needs) returns (λ c κs. search needs) (λ c. search needs) returns-2)

@@ -4,28 +4,10 @@ use borrow.Author.Needs.{needs}
 use Rattle.report.proofs.line.put_presence.Statement.{statement}
 use Rattle.report.proofs.line.put_presence.Tie as tie
 
-slice-aggregate-put-word : tie.Need-slice-aggregate-put-word
-slice-aggregate-put-word c = search needs
-
-put-word-requires : tie.Need-put-word-requires
-put-word-requires c κs = search needs
-
-same-length : tie.Need-same-length
-same-length c = search needs
-
 returns : tie.Need-returns
 unfolding presence
 returns c =
     rw (c .before .before .before .before .before .if1 .taken) (c .before .before .put-word .ensures)
-
-slice-aggregate-put-word-2 : tie.Need-slice-aggregate-put-word-2
-slice-aggregate-put-word-2 c = search needs
-
-put-word-requires-2 : tie.Need-put-word-requires-2
-put-word-requires-2 c κs = search needs
-
-same-length-2 : tie.Need-same-length-2
-same-length-2 c = search needs
 
 returns-2 : tie.Need-returns-2
 unfolding presence
@@ -36,11 +18,11 @@ pub put-presence-spec : {M : Type 1} → statement M
 put-presence-spec =
     tie.close
     (tie.spec
-    slice-aggregate-put-word
-    put-word-requires
-    same-length
+    (λ c. search needs)
+    (λ c κs. search needs)
+    (λ c. search needs)
     returns
-    slice-aggregate-put-word-2
-    put-word-requires-2
-    same-length-2
+    (λ c. search needs)
+    (λ c κs. search needs)
+    (λ c. search needs)
     returns-2)

@@ -10,36 +10,6 @@ use borrow.Author.Needs.{needs}
 use Rattle.report.proofs.line.put_stage.Statement.{statement}
 use Rattle.report.proofs.line.put_stage.Tie as tie
 
-slice-aggregate-words : tie.Need-slice-aggregate-words
-slice-aggregate-words c = search needs
-
-word-row-requires : tie.Need-word-row-requires
-word-row-requires c κs = search needs
-
-mul-start : tie.Need-mul-start
-mul-start c = search needs
-
-word-length-requires : tie.Need-word-length-requires
-word-length-requires c κs = search needs
-
-add-end : tie.Need-add-end
-add-end c = search needs
-
-sub-put-word : tie.Need-sub-put-word
-sub-put-word c = search needs
-
-part-put-word-start : tie.Need-part-put-word-start
-part-put-word-start c = search needs
-
-part-put-word-end : tie.Need-part-put-word-end
-part-put-word-end c = search needs
-
-put-word-requires : tie.Need-put-word-requires
-put-word-requires c κs = search needs
-
-same-length : tie.Need-same-length
-same-length c = search needs
-
 returns : tie.Need-returns
 returns c =
     let count = c .before .before .before .before .before in
@@ -54,14 +24,14 @@ pub put-stage-spec : {M : Type 1} → statement M
 put-stage-spec =
     tie.close
     (tie.spec
-    slice-aggregate-words
-    word-row-requires
-    mul-start
-    word-length-requires
-    add-end
-    sub-put-word
-    part-put-word-start
-    part-put-word-end
-    put-word-requires
-    same-length
+    (λ c. search needs)
+    (λ c κs. search needs)
+    (λ c. search needs)
+    (λ c κs. search needs)
+    (λ c. search needs)
+    (λ c. search needs)
+    (λ c. search needs)
+    (λ c. search needs)
+    (λ c κs. search needs)
+    (λ c. search needs)
     returns)

@@ -3,14 +3,8 @@ use borrow.Author.Needs.{needs}
 use Rattle.report.proofs.line.shown_votes.Statement.{statement}
 use Rattle.report.proofs.line.shown_votes.Tie as tie
 
-votes-requires : tie.Need-votes-requires
-votes-requires c κs = search needs
-
-returns : tie.Need-returns
-returns c = search needs
-
 returns-2 : tie.Need-returns-2
 returns-2 c = rw (c .before .if1 .left) (c .votes .ensures)
 
 pub shown-votes-spec : {M : Type 1} → statement M
-shown-votes-spec = tie.close (tie.spec votes-requires returns returns-2)
+shown-votes-spec = tie.close (tie.spec (λ c κs. search needs) (λ c. search needs) returns-2)

@@ -5,25 +5,10 @@ use borrow.Author.Needs.{needs}
 use Rattle.report.proofs.report.report.Statement.{statement}
 use Rattle.report.proofs.report.report.Tie as tie
 
-report-too-long-requires : tie.Need-report-too-long-requires
-report-too-long-requires c κs = search needs
-
-same-length : tie.Need-same-length
-same-length c = search needs
-
 returns : tie.Need-returns
 unfolding report
 returns c =
     rw (lt-ltb _ _ (c .before .before .before .before .if1 .taken)) (c .before .before .report-too-long .ensures)
-
-run-requires : tie.Need-run-requires
-run-requires c κs = search needs
-
-report-of-requires : tie.Need-report-of-requires
-report-of-requires c κs = search needs
-
-same-length-2 : tie.Need-same-length-2
-same-length-2 c = search needs
 
 returns-2 : tie.Need-returns-2
 unfolding report
@@ -35,10 +20,10 @@ pub report-spec : {M : Type 1} → statement M
 report-spec =
     tie.close
     (tie.spec
-    report-too-long-requires
-    same-length
+    (λ c κs. search needs)
+    (λ c. search needs)
     returns
-    run-requires
-    report-of-requires
-    same-length-2
+    (λ c κs. search needs)
+    (λ c κs. search needs)
+    (λ c. search needs)
     returns-2)

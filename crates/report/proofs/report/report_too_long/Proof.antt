@@ -6,15 +6,6 @@ use borrow.Author.Needs.{needs}
 use Rattle.report.proofs.report.report_too_long.Statement.{statement}
 use Rattle.report.proofs.report.report_too_long.Tie as tie
 
-slice-aggregate-line : tie.Need-slice-aggregate-line
-slice-aggregate-line c = search needs
-
-put-word-requires : tie.Need-put-word-requires
-put-word-requires c κs = search needs
-
-same-length : tie.Need-same-length
-same-length c = search needs
-
 returns : tie.Need-returns
 unfolding too-long
 returns c =
@@ -29,4 +20,4 @@ returns-2 c = record { filled = left-alone (c .if1 .left); short = lit≤ tt }
 
 pub report-too-long-spec : {M : Type 1} → statement M
 report-too-long-spec =
-    tie.close (tie.spec slice-aggregate-line put-word-requires same-length returns returns-2)
+    tie.close (tie.spec (λ c. search needs) (λ c κs. search needs) (λ c. search needs) returns returns-2)

@@ -4,9 +4,6 @@ use borrow.Author.Needs.{needs}
 use Rattle.report.proofs.text.entry_or_blank.Statement.{statement}
 use Rattle.report.proofs.text.entry_or_blank.Tie as tie
 
-blank-station-requires : tie.Need-blank-station-requires
-blank-station-requires c κs = search needs
-
 returns : tie.Need-returns
 returns c = rw (lt-ltb _ _ (c .if1 .taken))
 
@@ -14,4 +11,4 @@ returns-2 : tie.Need-returns-2
 returns-2 c = rw (le-ltb _ _ (c .before .if1 .left)) (c .blank-station .ensures)
 
 pub entry-or-blank-spec : {M : Type 1} → statement M
-entry-or-blank-spec = tie.close (tie.spec blank-station-requires returns returns-2)
+entry-or-blank-spec = tie.close (tie.spec (λ c κs. search needs) returns returns-2)

@@ -25,21 +25,6 @@ loop-holds : tie.Need-loop-holds Inv-loop μ-loop
 unfolding station-lines
 loop-holds c = (omega arith, nothing (now (c .before .args .out)) (c .before .args .at) (omega arith) (omega arith))
 
-station-place-requires : tie.Need-station-place-requires Inv-loop μ-loop
-station-place-requires c κs = search needs
-
-mul-entry-or-blank : tie.Need-mul-entry-or-blank Inv-loop μ-loop
-mul-entry-or-blank c = search needs
-
-array-copy-out-entry-or-blank : tie.Need-array-copy-out-entry-or-blank Inv-loop μ-loop
-array-copy-out-entry-or-blank c = search needs
-
-entry-or-blank-requires : tie.Need-entry-or-blank-requires Inv-loop μ-loop
-entry-or-blank-requires c κs = search needs
-
-put-station-line-requires : tie.Need-put-station-line-requires Inv-loop μ-loop
-put-station-line-requires c κs = tt
-
 add-s : tie.Need-add-s Inv-loop μ-loop
 add-s c = omega arith
 
@@ -75,11 +60,11 @@ put-station-lines-spec =
     Inv-loop
     μ-loop
     loop-holds
-    station-place-requires
-    mul-entry-or-blank
-    array-copy-out-entry-or-blank
-    entry-or-blank-requires
-    put-station-line-requires
+    (λ c κs. search needs)
+    (λ c. search needs)
+    (λ c. search needs)
+    (λ c κs. search needs)
+    (λ c κs. tt)
     add-s
     loop-less
     loop-again

@@ -5,15 +5,6 @@ use borrow.Author.Needs.{needs}
 use Rattle.report.proofs.text.put_text.Statement.{statement}
 use Rattle.report.proofs.text.put_text.Tie as tie
 
-put-first-line-requires : tie.Need-put-first-line-requires
-put-first-line-requires c κs = search needs
-
-put-station-lines-requires : tie.Need-put-station-lines-requires
-put-station-lines-requires c κs = search needs
-
-same-length : tie.Need-same-length
-same-length c = search needs
-
 returns : tie.Need-returns
 unfolding text
 returns c =
@@ -21,4 +12,4 @@ returns c =
 
 pub put-text-spec : {M : Type 1} → statement M
 put-text-spec =
-    tie.close (tie.spec put-first-line-requires put-station-lines-requires same-length returns)
+    tie.close (tie.spec (λ c κs. search needs) (λ c κs. search needs) (λ c. search needs) returns)

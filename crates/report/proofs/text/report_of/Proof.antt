@@ -7,33 +7,12 @@ use borrow.Author.Needs.{needs}
 use Rattle.report.proofs.text.report_of.Statement.{statement}
 use Rattle.report.proofs.text.report_of.Tie as tie
 
-faulty-requires : tie.Need-faulty-requires
-faulty-requires c κs = search needs
-
-slice-relend-prefix-put-text : tie.Need-slice-relend-prefix-put-text
-slice-relend-prefix-put-text c = search needs
-
-slice-aggregate-put-text : tie.Need-slice-aggregate-put-text
-slice-aggregate-put-text c = search needs
-
-put-text-requires : tie.Need-put-text-requires
-put-text-requires c κs = search needs
-
-put-text-requires-2 : tie.Need-put-text-requires-2
-put-text-requires-2 c κs = search needs
-
-same-length : tie.Need-same-length
-same-length c = search needs
-
 returns : tie.Need-returns
 returns c =
     let measured = c .before .before .before .before .before .before .before in
     let tested = measured .before .before .before in
     rw (← text-by-entries, ← tested .faulty .ensures)
     (printed (now (tested .before .before .args .out)) (measured .put-text .ensures) (lit≤ tt) (c .before .before .before .before .if1 .taken) (c .before .before .put-text2 .ensures))
-
-same-length-2 : tie.Need-same-length-2
-same-length-2 c = search needs
 
 returns-2 : tie.Need-returns-2
 returns-2 c =
@@ -46,12 +25,12 @@ pub report-of-spec : {M : Type 1} → statement M
 report-of-spec =
     tie.close
     (tie.spec
-    faulty-requires
-    slice-relend-prefix-put-text
-    slice-aggregate-put-text
-    put-text-requires
-    put-text-requires-2
-    same-length
+    (λ c κs. search needs)
+    (λ c. search needs)
+    (λ c. search needs)
+    (λ c κs. search needs)
+    (λ c κs. search needs)
+    (λ c. search needs)
     returns
-    same-length-2
+    (λ c. search needs)
     returns-2)

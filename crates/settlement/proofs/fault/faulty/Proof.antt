@@ -9,12 +9,9 @@ returns : tie.Need-returns
 unfolding fault
 returns c = rw (lt-ltb _ _ (c .if1 .taken))
 
-some-station-faulty-requires : tie.Need-some-station-faulty-requires
-some-station-faulty-requires c κs = search needs
-
 returns-2 : tie.Need-returns-2
 unfolding fault
 returns-2 c = rw (le-ltb _ _ (c .before .before .before .if1 .left), c .some-station-faulty .ensures)
 
 pub faulty-spec : {M : Type 1} → statement M
-faulty-spec = tie.close (tie.spec returns some-station-faulty-requires returns-2)
+faulty-spec = tie.close (tie.spec returns (λ c κs. search needs) returns-2)

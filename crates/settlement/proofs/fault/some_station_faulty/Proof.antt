@@ -19,20 +19,8 @@ loop-holds : tie.Need-loop-holds Inv-loop μ-loop
 unfolding any-below
 loop-holds c = (search needs, refl)
 
-cast-i : tie.Need-cast-i Inv-loop μ-loop
-cast-i c = search needs
-
-mul-station-faulty : tie.Need-mul-station-faulty Inv-loop μ-loop
-mul-station-faulty c = search needs
-
 element-copy-out-station-faulty : tie.Need-element-copy-out-station-faulty Inv-loop μ-loop
 element-copy-out-station-faulty c = omega arith
-
-station-faulty-requires : tie.Need-station-faulty-requires Inv-loop μ-loop
-station-faulty-requires c κs = search needs
-
-add-s : tie.Need-add-s Inv-loop μ-loop
-add-s c = search needs
 
 loop-less : tie.Need-loop-less Inv-loop μ-loop
 loop-less c = omega arith
@@ -57,11 +45,11 @@ some-station-faulty-spec =
     Inv-loop
     μ-loop
     loop-holds
-    cast-i
-    mul-station-faulty
+    (λ c. search needs)
+    (λ c. search needs)
     element-copy-out-station-faulty
-    station-faulty-requires
-    add-s
+    (λ c κs. search needs)
+    (λ c. search needs)
     loop-less
     loop-again
     returns)

@@ -4,18 +4,6 @@ use Rattle.settlement.specs.Fault.{station-fault}
 use Rattle.settlement.proofs.fault.station_faulty.Statement.{statement}
 use Rattle.settlement.proofs.fault.station_faulty.Tie as tie
 
-in-round-requires : tie.Need-in-round-requires
-in-round-requires c κs = search needs
-
-ceil-log2-requires : tie.Need-ceil-log2-requires
-ceil-log2-requires c κs = search needs
-
-on-finish-requires : tie.Need-on-finish-requires
-on-finish-requires c κs = search needs
-
-past-waiting-requires : tie.Need-past-waiting-requires
-past-waiting-requires c κs = search needs
-
 returns : tie.Need-returns
 unfolding station-fault
 returns c =
@@ -30,8 +18,8 @@ pub station-faulty-spec : {M : Type 1} → statement M
 station-faulty-spec =
     tie.close
     (tie.spec
-    in-round-requires
-    ceil-log2-requires
-    on-finish-requires
-    past-waiting-requires
+    (λ c κs. search needs)
+    (λ c κs. search needs)
+    (λ c κs. search needs)
+    (λ c κs. search needs)
     returns)

@@ -3,9 +3,6 @@ use borrow.Author.Needs.{needs}
 use Rattle.settlement.proofs.look.shown_claim.Statement.{statement}
 use Rattle.settlement.proofs.look.shown_claim.Tie as tie
 
-is-decided-requires : tie.Need-is-decided-requires
-is-decided-requires c κs = search needs
-
 returns : tie.Need-returns
 returns c = rw (rw (c .before .is-decided .ensures) at (c .if1 .taken))
 
@@ -13,4 +10,4 @@ returns-2 : tie.Need-returns-2
 returns-2 c = rw (rw (c .before .is-decided .ensures) at (c .if1 .left))
 
 pub shown-claim-spec : {M : Type 1} → statement M
-shown-claim-spec = tie.close (tie.spec is-decided-requires returns returns-2)
+shown-claim-spec = tie.close (tie.spec (λ c κs. search needs) returns returns-2)

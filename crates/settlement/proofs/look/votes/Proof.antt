@@ -6,53 +6,14 @@ use borrow.Author.Needs.{needs}
 use Rattle.settlement.proofs.look.votes.Statement.{statement}
 use Rattle.settlement.proofs.look.votes.Tie as tie
 
-bit-ballot-requires : tie.Need-bit-ballot-requires
-bit-ballot-requires c κs = search needs
-
-finish-ballot-requires : tie.Need-finish-ballot-requires
-finish-ballot-requires c κs = search needs
-
 enum-told : tie.Need-enum-told
 enum-told c = search needs
-
-enum-told-2 : tie.Need-enum-told-2
-enum-told-2 c = search needs
-
-enum-told-3 : tie.Need-enum-told-3
-enum-told-3 c = search needs
-
-enum-told-4 : tie.Need-enum-told-4
-enum-told-4 c = search needs
 
 add-result : tie.Need-add-result
 add-result c = let a = c .before .before .before .before .args in record { fits = rw (c .before .before .before .bit-ballot .ensures) (omega (arith, bits-twice (a .rule) (a .t .round), c .before .before .before .before .fits)) }
 
-enum-told-5 : tie.Need-enum-told-5
-enum-told-5 c = search needs
-
 add-result-2 : tie.Need-add-result-2
 add-result-2 c = let a = c .before .before .before .before .args in record { fits = rw (c .before .before .before .bit-ballot .ensures) (omega (arith, bits-twice (a .rule) (a .t .round), c .before .before .before .before .fits)) }
-
-enum-told-6 : tie.Need-enum-told-6
-enum-told-6 c = search needs
-
-enum-told-7 : tie.Need-enum-told-7
-enum-told-7 c = search needs
-
-add-result-3 : tie.Need-add-result-3
-add-result-3 c = search needs
-
-enum-told-8 : tie.Need-enum-told-8
-enum-told-8 c = search needs
-
-ceil-log2-requires : tie.Need-ceil-log2-requires
-ceil-log2-requires c κs = search needs
-
-cast-result : tie.Need-cast-result
-cast-result c = search needs
-
-add-result-4 : tie.Need-add-result-4
-add-result-4 c = search needs
 
 returns : tie.Need-returns
 unfolding votes
@@ -94,22 +55,22 @@ pub votes-spec : {M : Type 1} → statement M
 votes-spec =
     tie.close
     (tie.spec
-    bit-ballot-requires
-    finish-ballot-requires
+    (λ c κs. search needs)
+    (λ c κs. search needs)
     enum-told
-    enum-told-2
-    enum-told-3
-    enum-told-4
+    (λ c. search needs)
+    (λ c. search needs)
+    (λ c. search needs)
     add-result
-    enum-told-5
+    (λ c. search needs)
     add-result-2
-    enum-told-6
-    enum-told-7
-    add-result-3
-    enum-told-8
-    ceil-log2-requires
-    cast-result
-    add-result-4
+    (λ c. search needs)
+    (λ c. search needs)
+    (λ c. search needs)
+    (λ c. search needs)
+    (λ c κs. search needs)
+    (λ c. search needs)
+    (λ c. search needs)
     returns
     returns-2
     returns-3

@@ -6,18 +6,9 @@ use borrow.Author.Needs.{needs}
 use Rattle.settlement.proofs.open.open.Statement.{statement}
 use Rattle.settlement.proofs.open.open.Tie as tie
 
-open-number-requires : tie.Need-open-number-requires
-open-number-requires c κs = search needs
-
-fresh-requires : tie.Need-fresh-requires
-fresh-requires c κs = search needs
-
 returns : tie.Need-returns
 unfolding opened
 returns c = rw (c .fresh .ensures, ← c .before .before .open-number .ensures) (sym (refused-outcome _ (fresh (c .before .before .before .args .n) (c .before .before .before .args .rule)) blank (c .before .if1 .taken)))
-
-fresh-requires-2 : tie.Need-fresh-requires-2
-fresh-requires-2 c κs = search needs
 
 returns-2 : tie.Need-returns-2
 unfolding opened
@@ -25,4 +16,4 @@ returns-2 c = rw (c .fresh2 .ensures, ← c .before .before .open-number .ensure
 
 pub open-spec : {M : Type 1} → statement M
 open-spec =
-    tie.close (tie.spec open-number-requires fresh-requires returns fresh-requires-2 returns-2)
+    tie.close (tie.spec (λ c κs. search needs) (λ c κs. search needs) returns (λ c κs. search needs) returns-2)
