@@ -6,7 +6,7 @@ use Rattle.change.proofs.number.answer_number.Tie as tie
 
 returns : tie.Need-returns
 unfolding first-met
-returns c = cc
+returns c = rw (c .refuse4 .ensures, c .before .refuse3 .ensures, c .before .before .ballot-count .ensures, c .before .before .before .refuse2 .ensures, c .before .before .before .before .refuse .ensures, c .before .before .before .before .before .was-cast .ensures)
 
 pub answer-number-spec : {M : Type 1} → statement M
 answer-number-spec =

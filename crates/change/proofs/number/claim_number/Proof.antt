@@ -6,7 +6,7 @@ use Rattle.change.proofs.number.claim_number.Tie as tie
 
 returns : tie.Need-returns
 unfolding first-met
-returns c = cc
+returns c = rw (c .refuse3 .ensures, c .before .no-station .ensures, c .before .before .refuse2 .ensures, c .before .before .before .refuse .ensures, c .before .before .before .before .not-idle .ensures)
 
 pub claim-number-spec : {M : Type 1} → statement M
 claim-number-spec =

@@ -6,7 +6,7 @@ use Rattle.change.proofs.number.lose_number.Tie as tie
 
 returns : tie.Need-returns
 unfolding first-met
-returns c = cc
+returns c = rw (c .refuse2 .ensures, c .before .refuse .ensures, c .before .before .no-station .ensures)
 
 pub lose-number-spec : {M : Type 1} → statement M
 lose-number-spec =

@@ -6,7 +6,7 @@ use Rattle.change.proofs.step.bit_taken.Tie as tie
 
 returns : tie.Need-returns
 unfolding bit-taken
-returns c = cc
+returns c = rw (c .moved .ensures, c .before .with-bit .ensures)
 
 pub bit-taken-spec : {M : Type 1} → statement M
 bit-taken-spec = tie.close (tie.spec (λ c κs. search needs) (λ c κs. search needs) returns)
