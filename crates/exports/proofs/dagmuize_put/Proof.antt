@@ -42,16 +42,16 @@ pub dagmuize-put-spec : {M : Type 1} → statement M
 dagmuize-put-spec =
     tie.close
     (tie.spec
-    (λ c κs. search needs)
-    (λ c. search needs)
-    (λ c κs. search needs)
-    (λ c κs. search needs)
-    (λ c. search needs)
-    (λ c. search needs)
+    (λ row-with-requires κs. tt)
+    (λ enum-known-row. search needs)
+    (λ field-asked-requires κs. tt)
+    (λ put-requires κs. tt)
+    (λ cast-result. search needs)
+    (λ mul-result. search needs)
     cast-result-2
     add-result
     enum-told
-    (λ c. search needs)
-    (λ c. search needs)
+    (λ mul-result-2. search needs)
+    (λ same-length. search needs)
     returns
     returns-2)

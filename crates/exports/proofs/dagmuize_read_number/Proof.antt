@@ -1,5 +1,4 @@
 -- `exports::dagmuize_read_number`: the head's promise gives it. Assumes nothing.
-use borrow.Author.Needs.{needs}
 use Rattle.exports.proofs.dagmuize_read_number.Statement.{statement}
 use Rattle.exports.proofs.dagmuize_read_number.Tie as tie
 
@@ -7,4 +6,4 @@ returns : tie.Need-returns
 returns c = rw (c .head-of .ensures)
 
 pub dagmuize-read-number-spec : {M : Type 1} → statement M
-dagmuize-read-number-spec = tie.close (tie.spec (λ c κs. search needs) returns)
+dagmuize-read-number-spec = tie.close (tie.spec (λ head-of-requires κs. tt) returns)

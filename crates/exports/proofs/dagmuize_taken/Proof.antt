@@ -1,5 +1,4 @@
 -- `exports::dagmuize_taken`: RUN's promise gives the whole replay, and this is a field of it. Assumes nothing.
-use borrow.Author.Needs.{needs}
 use Rattle.exports.proofs.dagmuize_taken.Statement.{statement}
 use Rattle.exports.proofs.dagmuize_taken.Tie as tie
 
@@ -8,4 +7,4 @@ returns c =
     rw (c .run .ensures)
 
 pub dagmuize-taken-spec : {M : Type 1} → statement M
-dagmuize-taken-spec = tie.close (tie.spec (λ c κs. search needs) returns)
+dagmuize-taken-spec = tie.close (tie.spec (λ run-requires κs. tt) returns)

@@ -47,12 +47,12 @@ field-asked-spec =
     tie.close
     (tie.spec
     enum-told
-    (λ c. search needs)
-    (λ c. search needs)
-    (λ c. search needs)
-    (λ c. search needs)
-    (λ c. search needs)
-    (λ c. search needs)
+    (λ enum-told-2. search needs)
+    (λ enum-told-3. search needs)
+    (λ enum-told-4. search needs)
+    (λ enum-told-5. search needs)
+    (λ enum-told-6. search needs)
+    (λ enum-told-7. search needs)
     returns
     returns-2
     returns-3

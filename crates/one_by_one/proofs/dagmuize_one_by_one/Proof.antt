@@ -8,4 +8,4 @@ returns c = rw (← c .before .before .before .before .before .replay .ensures) 
 
 pub dagmuize-one-by-one-spec : {M : Type 1} → statement M
 dagmuize-one-by-one-spec =
-    tie.close (tie.spec (λ c κs. search needs) (λ c κs. search needs) (λ c. search needs) returns)
+    tie.close (tie.spec (λ replay-requires κs. tt) (λ report-of-requires κs. tt) (λ same-length. search needs) returns)

@@ -16,13 +16,13 @@ pub main-spec : {M : Type 1} → statement M
 main-spec =
     tie.close
     (tie.spec
-    (λ c. search needs)
-    (λ c κs. search needs)
-    (λ c. search needs)
-    (λ c. search needs)
-    (λ c. search needs)
-    (λ c κs. search needs)
+    (λ slice-aggregate-read-full. search needs)
+    (λ read-full-requires κs. tt)
+    (λ array-share-prefix-log. search needs)
+    (λ slice-aggregate-report. search needs)
+    (λ slice-aggregate-report-2. search needs)
+    (λ report-requires κs. tt)
     array-share-prefix-text
     slice-aggregate-write-all
-    (λ c κs. search needs)
-    (λ c. search needs))
+    (λ write-all-requires κs. tt)
+    (λ returns. search needs))

@@ -10,4 +10,4 @@ returns-2 : tie.Need-returns-2
 returns-2 c = sym (set-out (now (c .before .args .part)) (c .before .args .i) (c .before .args .b) (c .if1 .left))
 
 pub set-byte-spec : {M : Type 1} → statement M
-set-byte-spec = tie.close (tie.spec (λ c. search needs) (λ c. search needs) (λ c. search needs) returns-2)
+set-byte-spec = tie.close (tie.spec (λ slice-write-part. search needs) (λ same-length. search needs) (λ returns. search needs) returns-2)

@@ -55,7 +55,7 @@ put-word-spec =
     μ-loop
     loop-holds
     shared-slice-read-put-byte
-    (λ c κs. tt)
+    (λ put-byte-requires κs. tt)
     add-i
     loop-less
     loop-again

@@ -22,4 +22,4 @@ returns-2 : tie.Need-returns-2
 returns-2 c = sym (log-rule 8 (c .before .args .n) (search needs))
 
 pub ceil-log2-spec : {M : Type 1} → statement M
-ceil-log2-spec = tie.close (tie.spec returns (λ c. search needs) cast-result sub-result-2 returns-2)
+ceil-log2-spec = tie.close (tie.spec returns (λ sub-result. search needs) cast-result sub-result-2 returns-2)

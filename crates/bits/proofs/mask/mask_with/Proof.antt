@@ -2,7 +2,6 @@
 use mathlib.Core.Path.{sym, _∙_}
 use mathlib.Core.Bool.{true}
 use native.Mathlib.Omega.{arith}
-use borrow.Author.Needs.{needs}
 use Rattle.bits.specs.Words.{claimBits, maskBits, insert}
 use Rattle.bits.proofs.Words.{word-inside, word-outside}
 use Rattle.bits.proofs.mask.mask_with.Statement.{statement}
@@ -20,4 +19,4 @@ returns-2 c =
     ∙ sym (word-inside maskBits (a .s) true (a .mask) (omega arith))
 
 pub mask-with-spec : {M : Type 1} → statement M
-mask-with-spec = tie.close (tie.spec returns (λ c κs. search needs) returns-2)
+mask-with-spec = tie.close (tie.spec returns (λ with-bit-requires κs. tt) returns-2)

@@ -13,4 +13,4 @@ returns-2 : tie.Need-returns-2
 returns-2 c = sym (bit-div (c .before .args .k) (c .before .args .x))
 
 pub bit-at-spec : {M : Type 1} → statement M
-bit-at-spec = tie.close (tie.spec returns (λ c. search needs) returns-2)
+bit-at-spec = tie.close (tie.spec returns (λ shr-result. search needs) returns-2)

@@ -20,4 +20,4 @@ returns-2 c = agree-made claimBits (c .before .args .k) (c .before .args .a) (c 
 pub low-bits-agree-spec : {M : Type 1} → statement M
 low-bits-agree-spec =
     tie.close
-    (tie.spec (λ c. search needs) returns (λ c. search needs) (λ c. search needs) (λ c. search needs) rem-result rem-result-2 returns-2)
+    (tie.spec (λ sub-if1. search needs) returns (λ add-power. search needs) (λ cast-power. search needs) (λ shl-power. search needs) rem-result rem-result-2 returns-2)

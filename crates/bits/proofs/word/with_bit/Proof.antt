@@ -30,11 +30,11 @@ with-bit-spec =
     tie.close
     (tie.spec
     returns
-    (λ c κs. search needs)
-    (λ c. search needs)
-    (λ c. search needs)
-    (λ c. search needs)
+    (λ bit-at-requires κs. tt)
+    (λ cast-old. search needs)
+    (λ cast-new. search needs)
+    (λ shl-result. search needs)
     sub-result
-    (λ c. search needs)
+    (λ shl-result-2. search needs)
     add-result
     returns-2)

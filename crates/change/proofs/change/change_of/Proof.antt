@@ -28,20 +28,20 @@ pub change-of-spec : {M : Type 1} → statement M
 change-of-spec =
     tie.close
     (tie.spec
-    (λ c. search needs)
-    (λ c κs. search needs)
-    (λ c κs. search needs)
-    (λ c. search needs)
-    (λ c κs. search needs)
-    (λ c κs. search needs)
-    (λ c. search needs)
-    (λ c κs. search needs)
-    (λ c. search needs)
-    (λ c κs. search needs)
-    (λ c κs. search needs)
-    (λ c. search needs)
-    (λ c κs. search needs)
-    (λ c κs. search needs)
+    (λ enum-known-e. search needs)
+    (λ claim-number-requires κs. tt)
+    (λ claiming-requires κs. tt)
+    (λ enum-known-e-2. search needs)
+    (λ deliver-number-requires κs. tt)
+    (λ holding-requires κs. tt)
+    (λ enum-known-e-3. search needs)
+    (λ step-change-requires κs. tt)
+    (λ enum-known-e-4. search needs)
+    (λ lose-number-requires κs. tt)
+    (λ losing-requires κs. tt)
+    (λ enum-known-e-5. search needs)
+    (λ answer-number-requires κs. tt)
+    (λ answering-requires κs. tt)
     returns
     returns-2
     returns-3

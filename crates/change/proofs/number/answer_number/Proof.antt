@@ -1,6 +1,5 @@
 -- `change::number::answer_number`. Assumes nothing.
 use Rattle.basics.specs.Tests.{first-met}
-use borrow.Author.Needs.{needs}
 use Rattle.change.proofs.number.answer_number.Statement.{statement}
 use Rattle.change.proofs.number.answer_number.Tie as tie
 
@@ -12,10 +11,10 @@ pub answer-number-spec : {M : Type 1} → statement M
 answer-number-spec =
     tie.close
     (tie.spec
-    (λ c κs. search needs)
-    (λ c κs. search needs)
-    (λ c κs. search needs)
-    (λ c κs. search needs)
-    (λ c κs. search needs)
-    (λ c κs. search needs)
+    (λ was-cast-requires κs. tt)
+    (λ refuse-requires κs. tt)
+    (λ refuse-requires-2 κs. tt)
+    (λ ballot-count-requires κs. tt)
+    (λ refuse-requires-3 κs. tt)
+    (λ refuse-requires-4 κs. tt)
     returns)

@@ -1,6 +1,5 @@
 -- `change::number::claim_number`. Assumes nothing.
 use Rattle.basics.specs.Tests.{first-met}
-use borrow.Author.Needs.{needs}
 use Rattle.change.proofs.number.claim_number.Statement.{statement}
 use Rattle.change.proofs.number.claim_number.Tie as tie
 
@@ -12,9 +11,9 @@ pub claim-number-spec : {M : Type 1} → statement M
 claim-number-spec =
     tie.close
     (tie.spec
-    (λ c κs. search needs)
-    (λ c κs. search needs)
-    (λ c κs. search needs)
-    (λ c κs. search needs)
-    (λ c κs. search needs)
+    (λ not-idle-requires κs. tt)
+    (λ refuse-requires κs. tt)
+    (λ refuse-requires-2 κs. tt)
+    (λ no-station-requires κs. tt)
+    (λ refuse-requires-3 κs. tt)
     returns)

@@ -1,6 +1,5 @@
 -- `change::number::deliver_number`: each `refuse` is one test of the list, and they nest in the list's order. Assumes nothing.
 use Rattle.basics.specs.Tests.{first-met}
-use borrow.Author.Needs.{needs}
 use Rattle.change.proofs.number.deliver_number.Statement.{statement}
 use Rattle.change.proofs.number.deliver_number.Tie as tie
 
@@ -12,12 +11,12 @@ pub deliver-number-spec : {M : Type 1} → statement M
 deliver-number-spec =
     tie.close
     (tie.spec
-    (λ c κs. search needs)
-    (λ c κs. search needs)
-    (λ c κs. search needs)
-    (λ c κs. search needs)
-    (λ c κs. search needs)
-    (λ c κs. search needs)
-    (λ c κs. search needs)
-    (λ c κs. search needs)
+    (λ not-idle-requires κs. tt)
+    (λ mask-has-requires κs. tt)
+    (λ refuse-requires κs. tt)
+    (λ refuse-requires-2 κs. tt)
+    (λ no-station-requires κs. tt)
+    (λ no-station-requires-2 κs. tt)
+    (λ refuse-requires-3 κs. tt)
+    (λ refuse-requires-4 κs. tt)
     returns)

@@ -1,6 +1,5 @@
 -- `change::number::lose_number`. Assumes nothing.
 use Rattle.basics.specs.Tests.{first-met}
-use borrow.Author.Needs.{needs}
 use Rattle.change.proofs.number.lose_number.Statement.{statement}
 use Rattle.change.proofs.number.lose_number.Tie as tie
 
@@ -10,4 +9,4 @@ returns c = rw (c .refuse2 .ensures, c .before .refuse .ensures, c .before .befo
 
 pub lose-number-spec : {M : Type 1} → statement M
 lose-number-spec =
-    tie.close (tie.spec (λ c κs. search needs) (λ c κs. search needs) (λ c κs. search needs) returns)
+    tie.close (tie.spec (λ no-station-requires κs. tt) (λ refuse-requires κs. tt) (λ refuse-requires-2 κs. tt) returns)

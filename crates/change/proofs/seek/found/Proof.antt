@@ -20,14 +20,14 @@ pub found-spec : {M : Type 1} → statement M
 found-spec =
     tie.close
     (tie.spec
-    (λ c. search needs)
-    (λ c. search needs)
-    (λ c κs. search needs)
-    (λ c. search needs)
-    (λ c κs. search needs)
+    (λ cast-last. search needs)
+    (λ add-last. search needs)
+    (λ ceil-log2-requires κs. tt)
+    (λ cast-last-2. search needs)
+    (λ moved-requires κs. tt)
     returns
-    (λ c κs. search needs)
-    (λ c κs. search needs)
+    (λ next-round-requires κs. tt)
+    (λ moved-requires-2 κs. tt)
     returns-2
-    (λ c κs. search needs)
+    (λ moved-requires-3 κs. tt)
     returns-3)

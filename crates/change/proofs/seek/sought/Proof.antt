@@ -1,6 +1,5 @@
 -- `change::seek::sought`: each branch is the definition's, which chooses by the same test. Assumes nothing.
 use Rattle.event.specs.Step.{sought}
-use borrow.Author.Needs.{needs}
 use Rattle.change.proofs.seek.sought.Statement.{statement}
 use Rattle.change.proofs.seek.sought.Tie as tie
 
@@ -16,10 +15,10 @@ pub sought-spec : {M : Type 1} → statement M
 sought-spec =
     tie.close
     (tie.spec
-    (λ c κs. search needs)
-    (λ c κs. search needs)
-    (λ c κs. search needs)
-    (λ c κs. search needs)
+    (λ mask-has-requires κs. tt)
+    (λ spelled-requires κs. tt)
+    (λ low-bits-agree-requires κs. tt)
+    (λ found-requires κs. tt)
     returns
-    (λ c κs. search needs)
+    (λ moved-requires κs. tt)
     returns-2)

@@ -1,6 +1,5 @@
 -- `change::step::bit_taken`. Assumes nothing.
 use Rattle.event.specs.Step.{bit-taken}
-use borrow.Author.Needs.{needs}
 use Rattle.change.proofs.step.bit_taken.Statement.{statement}
 use Rattle.change.proofs.step.bit_taken.Tie as tie
 
@@ -9,4 +8,4 @@ unfolding bit-taken
 returns c = rw (c .moved .ensures, c .before .with-bit .ensures)
 
 pub bit-taken-spec : {M : Type 1} → statement M
-bit-taken-spec = tie.close (tie.spec (λ c κs. search needs) (λ c κs. search needs) returns)
+bit-taken-spec = tie.close (tie.spec (λ with-bit-requires κs. tt) (λ moved-requires κs. tt) returns)

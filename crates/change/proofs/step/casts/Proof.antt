@@ -1,5 +1,4 @@
 -- `change::step::casts`: the calls are the two entries. Assumes nothing.
-use borrow.Author.Needs.{needs}
 use Rattle.change.proofs.step.casts.Statement.{statement}
 use Rattle.change.proofs.step.casts.Tie as tie
 
@@ -7,4 +6,4 @@ returns : tie.Need-returns
 returns c = rw (c .casting .ensures, c .before .staged .ensures)
 
 pub casts-spec : {M : Type 1} → statement M
-casts-spec = tie.close (tie.spec (λ c κs. search needs) (λ c κs. search needs) returns)
+casts-spec = tie.close (tie.spec (λ staged-requires κs. tt) (λ casting-requires κs. tt) returns)

@@ -1,6 +1,5 @@
 -- `change::step::finish_taken`: each branch is the definition's, which chooses by the answer too. Assumes nothing.
 use Rattle.event.specs.Step.{finish-taken}
-use borrow.Author.Needs.{needs}
 use Rattle.change.proofs.step.finish_taken.Statement.{statement}
 use Rattle.change.proofs.step.finish_taken.Tie as tie
 
@@ -14,4 +13,4 @@ returns-2 c = rw (c .moved2 .ensures, c .before .next-round .ensures, c .before 
 
 pub finish-taken-spec : {M : Type 1} → statement M
 finish-taken-spec =
-    tie.close (tie.spec (λ c κs. search needs) returns (λ c κs. search needs) (λ c κs. search needs) returns-2)
+    tie.close (tie.spec (λ moved-requires κs. tt) returns (λ next-round-requires κs. tt) (λ moved-requires-2 κs. tt) returns-2)

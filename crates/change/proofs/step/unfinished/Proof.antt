@@ -8,4 +8,4 @@ returns c = rw (c .refuse2 .ensures, c .before .refuse .ensures, c .before .befo
 
 pub unfinished-spec : {M : Type 1} → statement M
 unfinished-spec =
-    tie.close (tie.spec (λ c κs. search needs) (λ c. search needs) (λ c κs. search needs) (λ c κs. search needs) returns)
+    tie.close (tie.spec (λ finish-ballot-requires κs. tt) (λ sub-last. search needs) (λ refuse-requires κs. tt) (λ refuse-requires-2 κs. tt) returns)

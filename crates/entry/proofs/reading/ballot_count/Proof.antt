@@ -13,4 +13,4 @@ returns-3 : tie.Need-returns-3
 returns-3 c = rw (c .before .if1 .left, c .if2 .left)
 
 pub ballot-count-spec : {M : Type 1} → statement M
-ballot-count-spec = tie.close (tie.spec returns (λ c κs. search needs) (λ c. search needs) returns-2 returns-3)
+ballot-count-spec = tie.close (tie.spec returns (λ ceil-log2-requires κs. tt) (λ cast-result. search needs) returns-2 returns-3)

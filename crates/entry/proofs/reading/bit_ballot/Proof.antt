@@ -10,4 +10,4 @@ returns-2 : tie.Need-returns-2
 returns-2 c = cc
 
 pub bit-ballot-spec : {M : Type 1} → statement M
-bit-ballot-spec = tie.close (tie.spec returns (λ c. search needs) returns-2)
+bit-ballot-spec = tie.close (tie.spec returns (λ mul-result. search needs) returns-2)

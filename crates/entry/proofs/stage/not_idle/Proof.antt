@@ -1,5 +1,4 @@
 -- `entry::stage::not_idle`. Assumes nothing.
-use borrow.Author.Needs.{needs}
 use Rattle.entry.proofs.stage.not_idle.Statement.{statement}
 use Rattle.entry.proofs.stage.not_idle.Tie as tie
 
@@ -7,4 +6,4 @@ returns : tie.Need-returns
 returns c = cc
 
 pub not-idle-spec : {M : Type 1} → statement M
-not-idle-spec = tie.close (tie.spec (λ c κs. search needs) returns)
+not-idle-spec = tie.close (tie.spec (λ is-at-requires κs. tt) returns)

@@ -1,5 +1,4 @@
 -- `entry::stage::on_finish`. Assumes nothing.
-use borrow.Author.Needs.{needs}
 use Rattle.entry.proofs.stage.on_finish.Statement.{statement}
 use Rattle.entry.proofs.stage.on_finish.Tie as tie
 
@@ -7,4 +6,4 @@ returns : tie.Need-returns
 returns c = cc
 
 pub on-finish-spec : {M : Type 1} → statement M
-on-finish-spec = tie.close (tie.spec (λ c κs. search needs) (λ c κs. search needs) returns)
+on-finish-spec = tie.close (tie.spec (λ is-at-requires κs. tt) (λ is-at-requires-2 κs. tt) returns)

@@ -10,15 +10,15 @@ pub ballot-of-spec : {M : Type 1} → statement M
 ballot-of-spec =
     tie.close
     (tie.spec
-    (λ c. search needs)
-    (λ c. search needs)
-    (λ c. search needs)
-    (λ c κs. search needs)
-    (λ c. search needs)
-    (λ c. search needs)
-    (λ c. search needs)
-    (λ c. search needs)
-    (λ c. search needs)
+    (λ enum-told. search needs)
+    (λ enum-told-2. search needs)
+    (λ enum-told-3. search needs)
+    (λ step-ballot-requires κs. tt)
+    (λ enum-told-4. search needs)
+    (λ enum-known-e. search needs)
+    (λ cast-result. search needs)
+    (λ returns. search needs)
+    (λ returns-2. search needs)
     returns-3
-    (λ c. search needs)
-    (λ c. search needs))
+    (λ returns-4. search needs)
+    (λ returns-5. search needs))

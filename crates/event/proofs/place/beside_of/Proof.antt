@@ -13,14 +13,14 @@ pub beside-of-spec : {M : Type 1} → statement M
 beside-of-spec =
     tie.close
     (tie.spec
-    (λ c. search needs)
-    (λ c. search needs)
+    (λ enum-known-e. search needs)
+    (λ enum-known-e-2. search needs)
     enum-told
-    (λ c κs. search needs)
-    (λ c. search needs)
-    (λ c. search needs)
-    (λ c. search needs)
-    (λ c. search needs)
+    (λ step-beside-requires κs. tt)
+    (λ enum-known-e-3. search needs)
+    (λ enum-told-2. search needs)
+    (λ returns. search needs)
+    (λ returns-2. search needs)
     returns-3
-    (λ c. search needs)
-    (λ c. search needs))
+    (λ returns-4. search needs)
+    (λ returns-5. search needs))

@@ -25,4 +25,4 @@ returns-4 c = rw (ne-eqb _ 0 (c .if3 .left))
 
 pub next-cursor-spec : {M : Type 1} → statement M
 next-cursor-spec =
-    tie.close (tie.spec (λ c. search needs) (λ c. search needs) returns returns-2 returns-3 (λ c. search needs) cast-result-2 returns-4)
+    tie.close (tie.spec (λ add-next. search needs) (λ cast-result. search needs) returns returns-2 returns-3 (λ rem-result. search needs) cast-result-2 returns-4)

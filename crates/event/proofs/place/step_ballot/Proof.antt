@@ -1,5 +1,4 @@
 -- `event::place::step_ballot`: each branch is the definition's, which chooses by the same two tests. Assumes nothing.
-use borrow.Author.Needs.{needs}
 use Rattle.event.proofs.place.step_ballot.Statement.{statement}
 use Rattle.event.proofs.place.step_ballot.Tie as tie
 
@@ -16,11 +15,11 @@ pub step-ballot-spec : {M : Type 1} → statement M
 step-ballot-spec =
     tie.close
     (tie.spec
-    (λ c κs. search needs)
-    (λ c κs. search needs)
-    (λ c κs. search needs)
-    (λ c κs. search needs)
+    (λ on-finish-requires κs. tt)
+    (λ is-at-requires κs. tt)
+    (λ is-at-requires-2 κs. tt)
+    (λ finish-ballot-requires κs. tt)
     returns
-    (λ c κs. search needs)
+    (λ bit-ballot-requires κs. tt)
     returns-2
     returns-3)

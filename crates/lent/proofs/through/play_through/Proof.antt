@@ -22,16 +22,16 @@ pub play-through-spec : {M : Type 1} → statement M
 play-through-spec =
     tie.close
     (tie.spec
-    (λ c. search needs)
-    (λ c κs. search needs)
-    (λ c. search needs)
-    (λ c κs. search needs)
-    (λ c. search needs)
-    (λ c κs. search needs)
-    (λ c. search needs)
-    (λ c κs. search needs)
-    (λ c. search needs)
-    (λ c κs. search needs)
+    (λ enum-known-e. search needs)
+    (λ claim-through-requires κs. tt)
+    (λ enum-known-e-2. search needs)
+    (λ deliver-through-requires κs. tt)
+    (λ enum-known-e-3. search needs)
+    (λ step-through-requires κs. tt)
+    (λ enum-known-e-4. search needs)
+    (λ lose-through-requires κs. tt)
+    (λ enum-known-e-5. search needs)
+    (λ answer-through-requires κs. tt)
     returns
     returns-2
     returns-3

@@ -18,4 +18,4 @@ returns-2 c =
 pub put-decision-spec : {M : Type 1} → statement M
 put-decision-spec =
     tie.close
-    (tie.spec (λ c κs. search needs) (λ c. search needs) returns (λ c κs. search needs) (λ c. search needs) returns-2)
+    (tie.spec (λ put-number-requires κs. tt) (λ same-length. search needs) returns (λ put-byte-requires κs. tt) (λ same-length-2. search needs) returns-2)

@@ -9,4 +9,4 @@ returns c =
     and-then (c .before .before .before .before .before .before .put-word .ensures) (c .before .before .put-number .ensures)
 
 pub put-named-spec : {M : Type 1} → statement M
-put-named-spec = tie.close (tie.spec (λ c κs. search needs) (λ c κs. search needs) (λ c. search needs) returns)
+put-named-spec = tie.close (tie.spec (λ put-word-requires κs. tt) (λ put-number-requires κs. tt) (λ same-length. search needs) returns)

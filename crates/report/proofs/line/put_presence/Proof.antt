@@ -18,11 +18,11 @@ pub put-presence-spec : {M : Type 1} → statement M
 put-presence-spec =
     tie.close
     (tie.spec
-    (λ c. search needs)
-    (λ c κs. search needs)
-    (λ c. search needs)
+    (λ slice-aggregate-put-word. search needs)
+    (λ put-word-requires κs. tt)
+    (λ same-length. search needs)
     returns
-    (λ c. search needs)
-    (λ c κs. search needs)
-    (λ c. search needs)
+    (λ slice-aggregate-put-word-2. search needs)
+    (λ put-word-requires-2 κs. tt)
+    (λ same-length-2. search needs)
     returns-2)

@@ -7,4 +7,4 @@ returns-2 : tie.Need-returns-2
 returns-2 c = rw (c .before .if1 .left) (c .votes .ensures)
 
 pub shown-votes-spec : {M : Type 1} → statement M
-shown-votes-spec = tie.close (tie.spec (λ c κs. search needs) (λ c. search needs) returns-2)
+shown-votes-spec = tie.close (tie.spec (λ votes-requires κs. tt) (λ returns. search needs) returns-2)

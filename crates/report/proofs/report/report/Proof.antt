@@ -20,10 +20,10 @@ pub report-spec : {M : Type 1} → statement M
 report-spec =
     tie.close
     (tie.spec
-    (λ c κs. search needs)
-    (λ c. search needs)
+    (λ report-too-long-requires κs. tt)
+    (λ same-length. search needs)
     returns
-    (λ c κs. search needs)
-    (λ c κs. search needs)
-    (λ c. search needs)
+    (λ run-requires κs. tt)
+    (λ report-of-requires κs. tt)
+    (λ same-length-2. search needs)
     returns-2)

@@ -20,4 +20,4 @@ returns-2 c = record { filled = left-alone (c .if1 .left); short = lit≤ tt }
 
 pub report-too-long-spec : {M : Type 1} → statement M
 report-too-long-spec =
-    tie.close (tie.spec (λ c. search needs) (λ c κs. search needs) (λ c. search needs) returns returns-2)
+    tie.close (tie.spec (λ slice-aggregate-line. search needs) (λ put-word-requires κs. tt) (λ same-length. search needs) returns returns-2)

@@ -60,11 +60,11 @@ put-station-lines-spec =
     Inv-loop
     μ-loop
     loop-holds
-    (λ c κs. search needs)
-    (λ c. search needs)
-    (λ c. search needs)
-    (λ c κs. search needs)
-    (λ c κs. tt)
+    (λ station-place-requires κs. tt)
+    (λ mul-entry-or-blank. search needs)
+    (λ array-copy-out-entry-or-blank. search needs)
+    (λ entry-or-blank-requires κs. tt)
+    (λ put-station-line-requires κs. tt)
     add-s
     loop-less
     loop-again

@@ -12,4 +12,4 @@ returns c =
 
 pub put-text-spec : {M : Type 1} → statement M
 put-text-spec =
-    tie.close (tie.spec (λ c κs. search needs) (λ c κs. search needs) (λ c. search needs) returns)
+    tie.close (tie.spec (λ put-first-line-requires κs. tt) (λ put-station-lines-requires κs. tt) (λ same-length. search needs) returns)

@@ -25,12 +25,12 @@ pub report-of-spec : {M : Type 1} → statement M
 report-of-spec =
     tie.close
     (tie.spec
-    (λ c κs. search needs)
-    (λ c. search needs)
-    (λ c. search needs)
-    (λ c κs. search needs)
-    (λ c κs. search needs)
-    (λ c. search needs)
+    (λ faulty-requires κs. tt)
+    (λ slice-relend-prefix-put-text. search needs)
+    (λ slice-aggregate-put-text. search needs)
+    (λ put-text-requires κs. tt)
+    (λ put-text-requires-2 κs. tt)
+    (λ same-length. search needs)
     returns
-    (λ c. search needs)
+    (λ same-length-2. search needs)
     returns-2)

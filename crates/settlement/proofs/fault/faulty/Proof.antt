@@ -1,7 +1,7 @@
 -- `settlement::fault::faulty`: each operand is a clause of the definition, in its order. Assumes nothing.
+use borrow.Author.Needs.{needs}
 use borrow.Author.Tests.{lt-ltb, le-ltb}
 use Rattle.settlement.specs.Fault.{fault}
-use borrow.Author.Needs.{needs}
 use Rattle.settlement.proofs.fault.faulty.Statement.{statement}
 use Rattle.settlement.proofs.fault.faulty.Tie as tie
 
@@ -14,4 +14,4 @@ unfolding fault
 returns-2 c = rw (le-ltb _ _ (c .before .before .before .if1 .left), c .some-station-faulty .ensures)
 
 pub faulty-spec : {M : Type 1} → statement M
-faulty-spec = tie.close (tie.spec returns (λ c κs. search needs) returns-2)
+faulty-spec = tie.close (tie.spec returns (λ some-station-faulty-requires κs. search needs) returns-2)

@@ -45,11 +45,11 @@ some-station-faulty-spec =
     Inv-loop
     μ-loop
     loop-holds
-    (λ c. search needs)
-    (λ c. search needs)
+    (λ cast-i. search needs)
+    (λ mul-station-faulty. search needs)
     element-copy-out-station-faulty
-    (λ c κs. search needs)
-    (λ c. search needs)
+    (λ station-faulty-requires κs. tt)
+    (λ add-s. search needs)
     loop-less
     loop-again
     returns)

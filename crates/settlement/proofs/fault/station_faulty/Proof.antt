@@ -1,5 +1,4 @@
 -- `settlement::fault::station_faulty`: each operand is a clause of the definition, in its order. Assumes nothing.
-use borrow.Author.Needs.{needs}
 use Rattle.settlement.specs.Fault.{station-fault}
 use Rattle.settlement.proofs.fault.station_faulty.Statement.{statement}
 use Rattle.settlement.proofs.fault.station_faulty.Tie as tie
@@ -18,8 +17,8 @@ pub station-faulty-spec : {M : Type 1} → statement M
 station-faulty-spec =
     tie.close
     (tie.spec
-    (λ c κs. search needs)
-    (λ c κs. search needs)
-    (λ c κs. search needs)
-    (λ c κs. search needs)
+    (λ in-round-requires κs. tt)
+    (λ ceil-log2-requires κs. tt)
+    (λ on-finish-requires κs. tt)
+    (λ past-waiting-requires κs. tt)
     returns)

@@ -23,13 +23,13 @@ pub look-spec : {M : Type 1} → statement M
 look-spec =
     tie.close
     (tie.spec
-    (λ c κs. search needs)
+    (λ look-number-requires κs. tt)
     returns
-    (λ c κs. search needs)
-    (λ c. search needs)
-    (λ c. search needs)
-    (λ c κs. search needs)
-    (λ c κs. search needs)
-    (λ c κs. search needs)
+    (λ station-place-requires κs. tt)
+    (λ mul-t. search needs)
+    (λ element-copy-out-t. search needs)
+    (λ is-decided-requires κs. tt)
+    (λ shown-claim-requires κs. tt)
+    (λ votes-requires κs. tt)
     cast-t17
     returns-2)

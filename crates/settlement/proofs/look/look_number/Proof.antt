@@ -1,6 +1,5 @@
 -- `settlement::look::look_number`: each `refuse` is one test of the list, and they nest in the list's order. Assumes nothing.
 use Rattle.basics.specs.Tests.{first-met}
-use borrow.Author.Needs.{needs}
 use Rattle.settlement.proofs.look.look_number.Statement.{statement}
 use Rattle.settlement.proofs.look.look_number.Tie as tie
 
@@ -11,4 +10,4 @@ returns c = cc
 pub look-number-spec : {M : Type 1} → statement M
 look-number-spec =
     tie.close
-    (tie.spec (λ c κs. search needs) (λ c κs. search needs) (λ c κs. search needs) (λ c κs. search needs) returns)
+    (tie.spec (λ faulty-requires κs. tt) (λ no-station-requires κs. tt) (λ refuse-requires κs. tt) (λ refuse-requires-2 κs. tt) returns)

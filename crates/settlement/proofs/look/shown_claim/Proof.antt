@@ -1,5 +1,4 @@
 -- `settlement::look::shown_claim`: each branch is the definition's, which chooses by the stage too. Assumes nothing.
-use borrow.Author.Needs.{needs}
 use Rattle.settlement.proofs.look.shown_claim.Statement.{statement}
 use Rattle.settlement.proofs.look.shown_claim.Tie as tie
 
@@ -10,4 +9,4 @@ returns-2 : tie.Need-returns-2
 returns-2 c = rw (rw (c .before .is-decided .ensures) at (c .if1 .left))
 
 pub shown-claim-spec : {M : Type 1} → statement M
-shown-claim-spec = tie.close (tie.spec (λ c κs. search needs) returns returns-2)
+shown-claim-spec = tie.close (tie.spec (λ is-decided-requires κs. tt) returns returns-2)

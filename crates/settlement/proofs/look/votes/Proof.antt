@@ -55,22 +55,22 @@ pub votes-spec : {M : Type 1} → statement M
 votes-spec =
     tie.close
     (tie.spec
-    (λ c κs. search needs)
-    (λ c κs. search needs)
+    (λ bit-ballot-requires κs. tt)
+    (λ finish-ballot-requires κs. tt)
     enum-told
-    (λ c. search needs)
-    (λ c. search needs)
-    (λ c. search needs)
+    (λ enum-told-2. search needs)
+    (λ enum-told-3. search needs)
+    (λ enum-told-4. search needs)
     add-result
-    (λ c. search needs)
+    (λ enum-told-5. search needs)
     add-result-2
-    (λ c. search needs)
-    (λ c. search needs)
-    (λ c. search needs)
-    (λ c. search needs)
-    (λ c κs. search needs)
-    (λ c. search needs)
-    (λ c. search needs)
+    (λ enum-told-6. search needs)
+    (λ enum-told-7. search needs)
+    (λ add-result-3. search needs)
+    (λ enum-told-8. search needs)
+    (λ ceil-log2-requires κs. tt)
+    (λ cast-result. search needs)
+    (λ add-result-4. search needs)
     returns
     returns-2
     returns-3

@@ -2,7 +2,6 @@
 use Rattle.settlement.specs.Events.{fresh, blank, opened}
 use Rattle.settlement.proofs.Refusals.{refused-outcome, accepted-outcome}
 use mathlib.Core.Path.{sym}
-use borrow.Author.Needs.{needs}
 use Rattle.settlement.proofs.open.open.Statement.{statement}
 use Rattle.settlement.proofs.open.open.Tie as tie
 
@@ -16,4 +15,4 @@ returns-2 c = rw (c .fresh2 .ensures, ← c .before .before .open-number .ensure
 
 pub open-spec : {M : Type 1} → statement M
 open-spec =
-    tie.close (tie.spec (λ c κs. search needs) (λ c κs. search needs) returns (λ c κs. search needs) returns-2)
+    tie.close (tie.spec (λ open-number-requires κs. tt) (λ fresh-requires κs. tt) returns (λ fresh-requires-2 κs. tt) returns-2)
