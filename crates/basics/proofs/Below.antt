@@ -4,7 +4,7 @@ use mathlib.Core.Path.{_≡_, sym, subst, _∙_, ap}
 use mathlib.Core.Logic.{⊎-elim}
 use mathlib.Core.Bool.{Bool, true, false, _||_, true≢false}
 use native.Mathlib.Nat.{le-refl, le-step, not-suc-le-zero, eq-or-lt-of-le, le-of-suc-le-suc}
-use Rattle.basics.specs.Below.{any-below}
+use Rattle.basics.specs.Below.{any-below, Some-below}
 use Rattle.basics.proofs.Bools.{by-bool, no-clash, or-false}
 
 -- a number found below n
@@ -32,3 +32,6 @@ any-true n f i l e = by-bool (any-below n f) (λ p. p) (λ p. no-clash (f i) e (
 
 pub none-below : (n : ℕ) (f : ℕ → Bool) → ((i : ℕ) → i < n → f i ≡ false) → any-below n f ≡ false
 none-below n f g = by-bool (any-below n f) (λ e. let t = any-found n f e in no-clash (f (t .0)) (t .2) (g (t .0) (t .1))) (λ e. e)
+
+pub some-below : Some-below
+some-below n f = (any-found n f, λ t. any-true n f (t .0) (t .1) (t .2))

@@ -8,7 +8,7 @@ use borrow.Author.Tests.{le-leb, lt-leb, leb-true, leb-false}
 use lib.Dec.{leb}
 use lib.ListN.{length, set, length-append}
 use lib.Seq.{sets, sets-eq, length-sets, set-out}
-use Rattle.basics.specs.Written.{last-place, place-up-to, Wrote, Filled}
+use Rattle.basics.specs.Written.{last-place, place-up-to, Wrote, Filled, Writing}
 use Rattle.basics.proofs.Bools.{by-bool}
 
 sets-append : (l : List ℕ) (i : ℕ) (s t : List ℕ) → sets (sets l i s) (i + length s) t ≡ sets l i (s ++ t)
@@ -77,3 +77,17 @@ module _ {m need : ℕ} {e t : List ℕ} (b : List ℕ) (measured : Wrote m [] 0
   -- it does not fit
   pub unfit : length (e ++ b) < need → Filled t b (e ++ b) 0
   unfit less = rw put-back (left-alone (rw (length-of, put-back) at less))
+
+-- ---- both determine what they speak of, and hold of a few bytes
+
+pub writing : Writing
+writing = record {
+  one-writing = λ m b i t a a' n n' v w. (v .bytes ∙ sym (w .bytes), v .ends ∙ sym (w .ends));
+  one-filling = λ t b a a' k k' v w. (v .written ∙ sym (w .written), v .counted ∙ sym (w .counted));
+  inside = record { bytes = refl; ends = refl; short = omega arith; fits = omega arith };
+  cut = record { bytes = refl; ends = refl; short = omega arith; fits = omega arith };
+  past = record { bytes = refl; ends = refl; short = omega arith; fits = omega arith };
+  room = record { written = refl; counted = refl };
+  just = record { written = refl; counted = refl };
+  too-long = record { written = refl; counted = refl };
+}

@@ -2,10 +2,10 @@
 use mathlib.Core.Bool.{true}
 use mathlib.Core.Path.{_≡_, refl}
 use Rattle.bits.specs.Digits.{digitsIn, binaryDigits, bitLength, bit}
-use Rattle.bits.specs.Words.{withBit}
+use Rattle.bits.specs.Words.{withBit, lowAgree, wordWithBit, member, insert}
 use Rattle.bits.specs.Log.{leastFrom, ceilLog2}
 use Rattle.bits.specs.Examples.{right, every, written}
 
 pub examples : every right written ≡ true
-unfolding digitsIn binaryDigits bitLength bit withBit leastFrom ceilLog2 right
+unfolding digitsIn binaryDigits bitLength bit withBit lowAgree wordWithBit member insert leastFrom ceilLog2 right
 examples = refl

@@ -1,11 +1,11 @@
 -- A mask is a set of stations: inserting s makes s a member and leaves every other station as it was. It is a word with one bit set.
 -- The laws of a count of members belong here too. Assumes nothing.
-use Prim.Native.Nat.{ℕ, _<_}
+use Prim.Native.Nat.{ℕ, _≤_, _<_}
 use mathlib.Core.Path.{_≡_}
 use mathlib.Core.Bool.{true, false}
-use Rattle.bits.specs.Words.{maskBits, member, insert}
+use Rattle.bits.specs.Words.{maskBits, member, insert, MaskLaws}
 use Rattle.bits.proofs.Digits.{bit-zero}
-use Rattle.bits.proofs.Words.{word-same, word-other}
+use Rattle.bits.proofs.Words.{word-outside, word-same, word-other}
 
 pub member-none : (s : ℕ) → member s 0 ≡ false
 unfolding member
@@ -18,3 +18,10 @@ member-same s mask h = word-same maskBits s true mask h
 pub member-other : (s t mask : ℕ) → (s ≡ t → ⊥) → member s (insert t mask) ≡ member s mask
 unfolding member insert
 member-other s t mask d = word-other maskBits t s true mask d
+
+pub member-past : (s mask : ℕ) → maskBits ≤ s → insert s mask ≡ mask
+unfolding insert
+member-past s mask h = word-outside maskBits s true mask h
+
+pub mask-laws : MaskLaws
+mask-laws = record { empty = member-none; put-in = member-same; others = member-other; past = member-past }

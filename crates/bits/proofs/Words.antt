@@ -12,7 +12,7 @@ use lib.Dec.{eqb, ltb}
 use lib.Pow.{pow-pos}
 use borrow.Author.Tests.{eqb-true, eq-eqb, lt-ltb, le-ltb, ltb-true, ltb-false}
 use Rattle.bits.specs.Digits.{value, bit}
-use Rattle.bits.specs.Words.{withBit, lowAgree, wordWithBit, BitLaws}
+use Rattle.bits.specs.Words.{withBit, lowAgree, wordWithBit, BitLaws, WordLaws}
 use Rattle.bits.proofs.Digits.{bit-low, bit-step, bit-ext, bit-above, lt-of-bits, halves, lowest-value}
 
 -- ---- a number made of a half and a lowest digit
@@ -167,3 +167,6 @@ bit-laws = record {
   determined = bit-ext;
   compared = λ k a b. (agree-bits k a b, bits-agree k a b);
 }
+
+pub word-laws : WordLaws
+word-laws = record { inside = word-inside; outside = word-outside }

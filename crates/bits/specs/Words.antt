@@ -1,9 +1,9 @@
 -- One bit changed, and the low bits of two numbers compared (paper 000, section 3: writing j[k], and j[k..0]);
 -- the same for words of a fixed width, and masks of stations. Assumes nothing.
-use Prim.Native.Nat.{ℕ, zero, suc, _+_, _-_, _*_, _/_, _^_, _≤_}
+use Prim.Native.Nat.{ℕ, zero, suc, _+_, _-_, _*_, _/_, _^_, _≤_, _<_}
 use mathlib.Core.Path.{_≡_}
 use mathlib.Core.Logic.{_↔_}
-use mathlib.Core.Bool.{Bool, true, _&&_, Bool·beq, cond}
+use mathlib.Core.Bool.{Bool, true, false, _&&_, Bool·beq, cond}
 use lib.Dec.{ltb}
 use Rattle.bits.specs.Digits.{value, lowest, bit}
 
@@ -49,3 +49,15 @@ pub record BitLaws : Type 0 where
   pub determined : (a b : ℕ) → ((k : ℕ) → bit k a ≡ bit k b) → a ≡ b
   -- j[k..0] = l[k..0]: each bit up to k is the same
   pub compared : (k a b : ℕ) → (lowAgree k a b ≡ true) ↔ ((i : ℕ) → i ≤ k → bit i a ≡ bit i b)
+
+-- a word keeps its width: a bit inside it is written, and past it there is none to write
+pub record WordLaws : Type 0 where
+  pub inside : (w k : ℕ) (b : Bool) (n : ℕ) → k < w → wordWithBit w k b n ≡ withBit k b n
+  pub outside : (w k : ℕ) (b : Bool) (n : ℕ) → w ≤ k → wordWithBit w k b n ≡ n
+
+-- a mask is a set of the stations below 32
+pub record MaskLaws : Type 0 where
+  pub empty : (s : ℕ) → member s 0 ≡ false
+  pub put-in : (s mask : ℕ) → s < 32 → member s (insert s mask) ≡ true
+  pub others : (s t mask : ℕ) → (s ≡ t → ⊥) → member s (insert t mask) ≡ member s mask
+  pub past : (s mask : ℕ) → 32 ≤ s → insert s mask ≡ mask
