@@ -1,24 +1,26 @@
 -- Demand 3 about the play: each clause follows from the file that is about it. The supplied steps can be counted, since a finite list tells of each
 -- whether it was supplied. Assumes nothing.
 use Prim.Native.Nat.{ℕ, suc}
-use mathlib.Core.Path.{_≡_, refl, sym, subst}
-use mathlib.Core.Logic.{inl, inr}
+use mathlib.Core.Path.{_≡_, refl, sym, subst, _∙_, ap}
+use mathlib.Core.Logic.{inl, inr, _↔_}
 use mathlib.Core.Bool.{Bool, true, false, not, _&&_}
 use mathlib.Core.Option.{Option, none, some, Option·none-ne-some, Option·some-injective}
-use Rattle.bits.specs.Digits.{bit, binaryDigits, digitsIn}
+use native.Mathlib.Omega.{arith}
+use Rattle.bits.specs.Digits.{bit, bitLength, binaryDigits, digitsIn}
 use Rattle.bits.specs.Words.{withBit, lowAgree}
 use Rattle.bits.specs.Log.{ceilLog2, leastFrom}
-use Rattle.consensus.specs.Events.{Event, History, start, _▷_, Rule, byStation, byClaim, Opening}
+use Rattle.consensus.specs.Events.{Event, History, start, _▷_, Rule, byStation, byClaim, Opening, rounds}
 use Rattle.consensus.specs.State.{State, held, answered, update}
 use Rattle.consensus.specs.Rules.{stage-number, number, step-from, effect, next, after}
 use Rattle.basics.specs.Below.{any-below}
-use Rattle.consensus.specs.Terms.{takes, waits-on, Supplied, Takes-supplied, Supplied-steps}
-use Rattle.consensus.specs.Told.{Told}
-use Rattle.consensus.specs.Demand3.{Demand3, No-42}
-use Rattle.consensus.specs.Examples.{opening, lone-by-station, lone-by-claim, beside-a-lost-claim, lacking-a-held-claim, Bounds-met}
+use Rattle.consensus.specs.Terms.{takes, waits-on, longest, Supplied, Takes-supplied, Supplied-steps}
+use Rattle.consensus.specs.Told.{Supplied-in, Told}
+use Rattle.consensus.specs.Demand3.{most-steps, Demand3, No-42}
+use Rattle.consensus.specs.Examples.{opening, lone-by-station, lone-of-three, lone-by-claim, lone-two-bits, beside-a-lost-claim, lacking-a-held-claim, Meets-bound, Bounds-met}
 use Rattle.basics.proofs.Bools.{by-bool, no-clash, and-true, not-false→true}
 use Rattle.basics.proofs.Below.{any-found, any-none}
 use Rattle.consensus.proofs.Reached.{reached}
+use Rattle.consensus.proofs.Beginnings.{beginning-followed, followed-beginning, fit-claims, claims-fit}
 use Rattle.consensus.proofs.Listed.{voted-told, took-told}
 use Rattle.consensus.proofs.Accepted.{put-in-shown, holds-shown, lost-shown, answered-shown}
 use Rattle.consensus.proofs.Told.{first-answer-shown, waits-shown, decided-shown, shown-decided}
@@ -88,6 +90,17 @@ module _ (o : Opening) (p : ℕ) (h : History) where
       go (yes a) (no f) c = no (λ s. f (λ i t x. holds-shown o p t h .0 (s .all i t (holds-shown o i t h .1 x))))
       go (yes a) (yes b) (no f) = no (λ s. f (λ i e. answered-shown o i h .0 (s .answers i e)))
 
+  -- what the state shows, both ways
+  pub supplied-shown : Supplied o p h ↔ Supplied-in o st p
+  supplied-shown = (
+    λ s. (
+      holds-shown o p p h .0 (s .own),
+      λ i t x. holds-shown o p t h .0 (s .all i t (holds-shown o i t h .1 x)),
+      λ b w. answered-shown o b h .0 (s .answers b (waits-shown o p h ∙ w)),
+    ),
+    λ x. supplied-of (x .0) (x .1) (λ b w. x .2 b (sym (waits-shown o p h) ∙ w)),
+  )
+
   takes-told : (e : Event) → Dec (Takes-supplied o p h e)
   takes-told e = by-bool (takes o p h e) (λ t. go t supplied-told) (λ t. no (λ x. no-clash _ (x .0) t))
     where
@@ -102,6 +115,15 @@ module _ (o : Opening) (p : ℕ) (h : History) where
 pub counted : (o : Opening) (h : History) (p : ℕ) → (m : ℕ) × Supplied-steps o p m h
 counted o start p = (0, refl)
 counted o (h ▷ e) p = one-more o p h e (takes-told o p h e) (counted o h p)
+
+-- and a list has one such count
+pub counted-once : (o : Opening) (h : History) (p m m' : ℕ) → Supplied-steps o p m h → Supplied-steps o p m' h → m ≡ m'
+counted-once o start p m m' a b = a ∙ sym b
+counted-once o (h ▷ e) p m m' (inl a) (inl b) =
+    a .1 .1 ∙ ap suc (counted-once o h p (a .1 .0) (b .1 .0) (a .1 .2) (b .1 .2)) ∙ sym (b .1 .1)
+counted-once o (h ▷ e) p m m' (inl a) (inr b) = absurd (b .0 (a .0))
+counted-once o (h ▷ e) p m m' (inr a) (inl b) = absurd (a .0 (b .0))
+counted-once o (h ▷ e) p m m' (inr a) (inr b) = counted-once o h p m m' (a .1) (b .1)
 
 -- ---- the words
 
@@ -119,7 +141,10 @@ told = record {
     has-decided = λ p v. (decided-shown o p v h, shown-decided o p v h);
     none-longer = λ s v a. put-longest o s v h a;
     as-long = longest-put o h;
+    is-supplied = λ p. supplied-shown o p h;
   };
+  beginnings = λ g h. (beginning-followed g h, λ x. followed-beginning g h (x .0) (x .1));
+  claims = λ h. (fit-claims h, claims-fit h);
 }
 
 -- ---- the demand
@@ -132,6 +157,7 @@ demand3 = record {
     answered = all-answered o h;
     cost = λ p v d. cost-by (o .count) (o .rule) h p v d;
     counted = counted o h;
+    counted-once = counted-once o h;
     bound = bound o h;
     never-refused = λ g b. never-refused o g (fit-beginning g h b f);
   };
@@ -142,21 +168,38 @@ no-event-42 = record { holds = λ o h f e. no-42 o h f e }
 
 -- ---- the bounds are met: the supplied steps of a lone claimant, counted
 
--- the lists whose supplied steps are counted, with the stations, the rule and the number
-abbrev Counts : ℕ → Rule → History → ℕ → Type 0
-Counts n r h m = counted (opening n r) h 0 .0 ≡ m
+module _ (n : ℕ) (r : Rule) (h : History) where
+  abbrev o : Opening
+  o = opening n r
 
-counts : Counts 2 byStation lone-by-station 5 × Counts 1 byClaim lone-by-claim 6 × Counts 2 byStation beside-a-lost-claim 5 × Counts 2 byStation lacking-a-held-claim 0
+  -- as many supplied steps as the bound of that list allows, and so many
+  abbrev Counts : ℕ → Type 0
+  Counts m = (counted o h 0 .0 ≡ m) × (most-steps r n (rounds o) (longest o h) ≡ m)
+
+  counted-as : (m : ℕ) → counted o h 0 .0 ≡ m → Supplied-steps o 0 m h
+  counted-as m e = subst (λ (k : ℕ). Supplied-steps o 0 k h) e (counted o h 0 .1)
+
+  meets : (m : ℕ) → Counts m → Meets-bound n r h m
+  meets m e = record {
+    taken = counted-as _ (e .0 ∙ sym (e .1));
+    most = e .1;
+    no-fewer = λ i l s. let same = counted-once o h 0 i m s (counted-as m (e .0)) in omega arith;
+  }
+
+counts : Counts 2 byStation lone-by-station 5 × Counts 3 byStation lone-of-three 11 × Counts 1 byClaim lone-by-claim 6 × Counts 3 byClaim lone-two-bits 15
+unfolding counted one-more takes-told supplied-told own-told all-told answers-told lacks by-bool waits-on longest bitLength bit binaryDigits digitsIn withBit lowAgree ceilLog2 leastFrom update any-below stage-number number step-from effect next after
+counts = ((refl, refl), (refl, refl), (refl, refl), (refl, refl))
+
+held-or-not : (counted (opening 2 byStation) beside-a-lost-claim 0 .0 ≡ 5) × (counted (opening 2 byStation) lacking-a-held-claim 0 .0 ≡ 0)
 unfolding counted one-more takes-told supplied-told own-told all-told answers-told lacks by-bool waits-on bit binaryDigits digitsIn withBit lowAgree ceilLog2 leastFrom update any-below stage-number number step-from effect next after
-counts = (refl, refl, refl, refl)
-
-counted-as : (n : ℕ) (r : Rule) (h : History) (m : ℕ) → Counts n r h m → Supplied-steps (opening n r) 0 m h
-counted-as n r h m e = subst (λ (k : ℕ). Supplied-steps (opening n r) 0 k h) e (counted (opening n r) h 0 .1)
+held-or-not = (refl, refl)
 
 pub bounds-met : Bounds-met
 bounds-met = record {
-  by-station = counted-as 2 byStation lone-by-station 5 (counts .0);
-  by-claim = counted-as 1 byClaim lone-by-claim 6 (counts .1);
-  nobody-holds = counted-as 2 byStation beside-a-lost-claim 5 (counts .2);
-  somebody-holds = counted-as 2 byStation lacking-a-held-claim 0 (counts .3);
+  by-station = meets 2 byStation lone-by-station 5 (counts .0);
+  by-station-3 = meets 3 byStation lone-of-three 11 (counts .1);
+  by-claim = meets 1 byClaim lone-by-claim 6 (counts .2);
+  by-claim-3 = meets 3 byClaim lone-two-bits 15 (counts .3);
+  nobody-holds = counted-as 2 byStation beside-a-lost-claim 5 (held-or-not .0);
+  somebody-holds = counted-as 2 byStation lacking-a-held-claim 0 (held-or-not .1);
 }

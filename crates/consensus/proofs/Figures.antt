@@ -1,7 +1,7 @@
 -- Demand 2 about the play: the figure's run shows the play after every list, since it does at the opening and each event has
 -- one verdict in both. Assumes nothing.
 use Prim.Native.Nat.{ℕ}
-use mathlib.Core.Path.{_≡_, refl, sym, subst, ap, _∙_}
+use mathlib.Core.Path.{_≡_, refl, sym, subst, ap, _∙_, fun-ext}
 use mathlib.Core.Bool.{Bool, true, false, cond}
 use mathlib.Core.Option.{Option, some, Option·some-injective, Option·none-ne-some}
 use borrow.Author.Tests.{ne-eqb}
@@ -90,9 +90,25 @@ every-label (crash s) = (lose s, refl)
 every-label (decide b true) = (answer b 1, refl)
 every-label (decide b false) = (answer b 0, refl)
 
+-- each part of the figure's state is said to be something of the play's
+module _ (o : Opening) (st : State) (x y : Figure-state o) (v : Shows o st x) (w : Shows o st y) where
+  same-process : (s : ℕ) → x .process s ≡ y .process s
+  same-process s = λ i. record {
+    place = Option·some-injective (x .process s .place) (y .process s .place) (sym (v .place s) ∙ w .place s) i;
+    prop = fun-ext (λ t. v .prop s t ∙ sym (w .prop s t)) i;
+    sent = (v .sent s ∙ sym (w .sent s)) i;
+    delivered = fun-ext (λ t. v .delivered s t ∙ sym (w .delivered s t)) i;
+    proposed = fun-ext (λ b. v .proposed s b ∙ sym (w .proposed s b)) i;
+    crashed = (v .crashed s ∙ sym (w .crashed s)) i;
+  }
+
+  one-shown : x ≡ y
+  one-shown = λ i. record { process = fun-ext same-process i; decision = fun-ext (λ b. v .decision b ∙ sym (w .decision b)) i }
+
 pub demand2 : Demand2
 demand2 = record {
   holds = λ o ok h fit. demand2-of o ok h fit;
   every-label = every-label;
+  one-shown = one-shown;
   one-outcome = λ o x y z e p q. Option·some-injective y z (sym p ∙ q);
 }

@@ -1,5 +1,6 @@
--- Proofs about the play. First, computed: the lists that tell the four false readings apart.
+-- Proofs about the play. First, computed: the lists that tell the four false readings apart; the play's numbers and STEPs as literals.
 pub mod Examples
+pub mod Rows
 -- What holds of every state reached:
 --     Basics       cases on Bools, updates, refusals
 --     Invariant    what holds of every state reached from an opening
@@ -21,21 +22,25 @@ pub mod Station
 --     Accepted     an accepted event is what the state shows
 --     Told         what the list tells of a station is what its stage says
 --     Listed       what stands in the lists of votes and answers
+--     Beginnings   beginnings of a list, and the claims in it
 --     Longest      rounds stay below K
 --     Agree        agreement, validity, the cost in ballots
 --     Bound        what each step spends
 --     Supplied     the bound on supplied steps
 --     Never        a supplied step is never refused, and no event meets 42
 --     Demand3      demand 3 about the play
+--     Edges        its words at their edges
 pub mod Accepted
 pub mod Told
 pub mod Listed
+pub mod Beginnings
 pub mod Longest
 pub mod Agree
 pub mod Bound
 pub mod Supplied
 pub mod Never
 pub mod Demand3
+pub mod Edges
 -- The figures:
 --     Alike        what a STEP does, in the figures' terms
 --     Alike1       a STEP by station does what an event of figure 1 does

@@ -2,19 +2,19 @@
 -- that whole events reach, and that one shows the play's. The other way, a STEP's lines are done one by one. Assumes nothing.
 use Prim.Native.Nat.{ℕ, zero, suc}
 use mathlib.Core.Path.{_≡_, refl, sym, subst, ap, _∙_, fun-ext}
-use mathlib.Core.Logic.{inl, inr}
-use mathlib.Core.Bool.{Bool, cond}
+use mathlib.Core.Logic.{_⊎_, inl, inr}
+use mathlib.Core.Bool.{Bool, false, cond}
 use mathlib.Core.Option.{Option, none, some, Option·some-injective}
 use Rattle.consensus.specs.Events.{Event, claim, deliver, step, lose, answer, History, start, _▷_, Rule, byStation, byClaim, Opening, Openable}
 use Rattle.consensus.specs.State.{Stage, idle, waiting, voting, awaiting, seeking, finish-voting, finish-awaiting, decided, State, claim-of}
 use Rattle.consensus.specs.Rules.{after}
 use Rattle.consensus.specs.Terms.{Claims-fit}
-use Rattle.consensus.specs.Figure.{known, event}
+use Rattle.consensus.specs.Figure.{View, Figure, known, event}
 use Rattle.consensus.specs.Figure2 as two
 use Rattle.consensus.specs.System.{view}
 use Rattle.consensus.specs.Runs.{stay, happening, run}
 use Rattle.consensus.specs.Demand2.{figure-by, figure-of, place-2, place-by, Figure-state, Shows, figure-after}
-use Rattle.consensus.specs.Lines.{Thinned, empty, kept, left-out, Inside, outset, put-back, lines-after, Within, Whole-events, Single-lines}
+use Rattle.consensus.specs.Lines.{Thinned, empty, kept, left-out, plain, without-steps, Inside, outset, onto, put-back, lines-after, Within, Whole-events, Single-lines}
 use Rattle.consensus.proofs.Invariant.{Stage-ok, Inv}
 use Rattle.consensus.proofs.Reached.{reached}
 use Rattle.consensus.proofs.Lawful.{Ready-2, Ready-by, lawful}
@@ -181,9 +181,22 @@ module _ (o : Opening) where
   spread-list start = (start, empty, refl)
   spread-list (h ▷ e) = spread-next h e (spread-list h)
 
+-- ---- what is left out, and where a process is
+
+steps-alone : (g h : History) → Thinned g h → without-steps g ≡ without-steps h
+steps-alone g h empty = refl
+steps-alone g h (kept {g = g'} {h = h'} e t) = ap (plain e) (steps-alone g' h' t)
+steps-alone g h (left-out {g = g'} {h = h'} s t) = steps-alone g' h' t
+
+at-no-stop : (F : Figure) (x : View) (p q : F .Place) → Inside F x p q → (p ≡ q) ⊎ (F .stop q ≡ false)
+at-no-stop F x p q outset = inl refl
+at-no-stop F x p q (onto i l s) = inr s
+
 pub single-lines : Single-lines
 single-lines = record {
   holds = λ o ok h fit. whole o ok h fit;
   lines = spread-list;
+  steps-alone = steps-alone;
+  at-no-stop = λ r. at-no-stop (figure-by r);
   stops = λ r. event-stops (figure-by r) (Ready-by r) (lawful r);
 }

@@ -84,3 +84,5 @@ pub record Demand2 : Type 0 where
   -- the events leave out nothing that may happen, and a labelled step has one outcome (a step is computed, so this is plain)
   pub every-label : (l : Label) → (e : Event) × (label-of e ≡ some l)
   pub one-outcome : (o : Opening) (x y z : Figure-state o) (e : Event) → Step o x e y → Step o x e z → y ≡ z
+  -- a state of the play shows one state of the figure: nothing of that state is left out
+  pub one-shown : (o : Opening) (st : State) (x y : Figure-state o) → Shows o st x → Shows o st y → x ≡ y

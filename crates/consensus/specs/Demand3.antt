@@ -38,6 +38,7 @@ module _ (o : Opening) (h : History) where
     pub answered : (p v : ℕ) → Decided o p v h → map (λ x. x .0) (answers-taken o p h) ≡ voted-in o p h
     -- "whatever Q and the rest do, P has taken at most .. supplied steps": P has taken one number of them, and it is so bounded
     pub counted : (p : ℕ) → (m : ℕ) × Supplied-steps o p m h
+    pub counted-once : (p m m' : ℕ) → Supplied-steps o p m h → Supplied-steps o p m' h → m ≡ m'
     pub bound : (p m : ℕ) → Supplied-steps o p m h → m ≤ most-steps (o .rule) (o .count) (rounds o) (longest o h)
     -- "a P that has claimed, is not lost and is undecided is never refused one", wherever in the list it is tried
     pub never-refused : (g : History) → Beginning g h → (p v : ℕ) → Put-in o p v g → (Lost o p g → ⊥) → ((w : ℕ) → Decided o p w g → ⊥)

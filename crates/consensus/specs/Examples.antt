@@ -1,10 +1,11 @@
 -- Lists of events that tell readings apart: the four false readings of document 01, each with an event that the false reading gives
--- another number; and that demand 3's bounds are met exactly. Assumes nothing.
-use Prim.Native.Nat.{ℕ}
+-- another number; and that demand 3's bounds are met exactly, so that none can be wider. Assumes nothing.
+use Prim.Native.Nat.{ℕ, _<_}
 use mathlib.Core.Path.{_≡_}
-use Rattle.consensus.specs.Events.{Event, claim, deliver, step, lose, answer, History, start, _▷_, Rule, byStation, byClaim, Opening}
+use Rattle.consensus.specs.Events.{Event, claim, deliver, step, lose, answer, History, start, _▷_, Rule, byStation, byClaim, Opening, rounds}
 use Rattle.consensus.specs.Rules.{number, after}
-use Rattle.consensus.specs.Terms.{Supplied-steps}
+use Rattle.consensus.specs.Terms.{longest, Supplied-steps}
+use Rattle.consensus.specs.Demand3.{most-steps}
 
 abbrev pub opening : ℕ → Rule → Opening
 opening n r = record { count = n; rule = r }
@@ -57,6 +58,20 @@ lone-by-station = start ▷ claim 0 7 ▷ deliver 0 0 ▷ step 0 ▷ step 0 ▷ 
 abbrev pub lone-by-claim : History
 lone-by-claim = start ▷ claim 0 0 ▷ deliver 0 0 ▷ step 0 ▷ step 0 ▷ answer 0 0 ▷ step 0 ▷ step 0 ▷ step 0 ▷ answer 1 1 ▷ step 0
 
+-- by station, n = 3, R = 2: 1 + 2 (3 + 2) = 11
+abbrev pub lone-of-three : History
+lone-of-three =
+    start ▷ claim 0 7 ▷ deliver 0 0 ▷ step 0
+    ▷ step 0 ▷ answer 0 0 ▷ step 0 ▷ step 0 ▷ step 0 ▷ step 0
+    ▷ step 0 ▷ answer 1 0 ▷ step 0 ▷ step 0 ▷ step 0 ▷ step 0
+
+-- by claim, n = 3, claim 2, K = 2: 1 + 2 (3 + 4) = 15
+abbrev pub lone-two-bits : History
+lone-two-bits =
+    start ▷ claim 0 2 ▷ deliver 0 0 ▷ step 0
+    ▷ step 0 ▷ answer 0 0 ▷ step 0 ▷ step 0 ▷ step 0 ▷ step 0 ▷ step 0 ▷ answer 1 0 ▷ step 0
+    ▷ step 0 ▷ answer 2 1 ▷ step 0 ▷ step 0 ▷ step 0 ▷ step 0 ▷ step 0 ▷ answer 3 1 ▷ step 0
+
 -- a claim that nobody holds need not be held: station 1 put one in and was lost, and the five steps of station 0 are supplied all the same
 abbrev pub beside-a-lost-claim : History
 beside-a-lost-claim =
@@ -66,8 +81,17 @@ beside-a-lost-claim =
 abbrev pub lacking-a-held-claim : History
 lacking-a-held-claim = start ▷ claim 0 7 ▷ claim 1 9 ▷ deliver 0 0 ▷ deliver 1 1 ▷ step 0
 
+-- In the list h station 0 has taken as many supplied steps as the bound of that very list allows: m, and no smaller number.
+pub record Meets-bound (n : ℕ) (r : Rule) (h : History) (m : ℕ) : Type 0 where
+  pub taken : Supplied-steps (opening n r) 0 (most-steps r n (rounds (opening n r)) (longest (opening n r) h)) h
+  pub most : most-steps r n (rounds (opening n r)) (longest (opening n r) h) ≡ m
+  pub no-fewer : (i : ℕ) → i < m → Supplied-steps (opening n r) 0 i h → ⊥
+
 pub record Bounds-met : Type 0 where
-  pub by-station : Supplied-steps (opening 2 byStation) 0 5 lone-by-station
-  pub by-claim : Supplied-steps (opening 1 byClaim) 0 6 lone-by-claim
+  pub by-station : Meets-bound 2 byStation lone-by-station 5
+  pub by-station-3 : Meets-bound 3 byStation lone-of-three 11
+  pub by-claim : Meets-bound 1 byClaim lone-by-claim 6
+  pub by-claim-3 : Meets-bound 3 byClaim lone-two-bits 15
+  -- what is supplied, and what is not
   pub nobody-holds : Supplied-steps (opening 2 byStation) 0 5 beside-a-lost-claim
   pub somebody-holds : Supplied-steps (opening 2 byStation) 0 0 lacking-a-held-claim

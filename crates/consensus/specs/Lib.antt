@@ -12,7 +12,9 @@
 --     Runs        what may happen in the system, and the runs of a figure
 --     Demand2     demand 2 about the play
 --     Lines       runs of single printed lines end where the play ends
---     Examples    lists that tell the four false readings apart
+--     Examples    lists that tell the four false readings apart, and lists that meet the bounds
+--     Rows        numbers and STEPs of the play as literals
+--     Edges       the words of demand 3 at their edges, as literals
 pub mod Events
 pub mod State
 pub mod Rules
@@ -27,3 +29,5 @@ pub mod Runs
 pub mod Demand2
 pub mod Lines
 pub mod Examples
+pub mod Rows
+pub mod Edges

@@ -3,8 +3,9 @@
 -- Assumes nothing.
 use Prim.Native.Nat.{ℕ}
 use mathlib.Core.Path.{_≡_}
+use mathlib.Core.Logic.{_⊎_}
 use mathlib.Core.Bool.{true, false}
-use Rattle.consensus.specs.Events.{Event, step, History, start, _▷_, Rule, Opening, Openable}
+use Rattle.consensus.specs.Events.{Event, claim, deliver, step, lose, answer, History, start, _▷_, Rule, Opening, Openable}
 use Rattle.consensus.specs.Rules.{after}
 use Rattle.consensus.specs.Terms.{Claims-fit}
 use Rattle.consensus.specs.Figure.{View, goes, Figure, event}
@@ -17,6 +18,18 @@ pub data Thinned : History → History → Type 0 where
   empty : Thinned start start
   kept : {g h : History} (e : Event) → Thinned g h → Thinned (g ▷ e) (h ▷ e)
   left-out : {g h : History} (s : ℕ) → Thinned g h → Thinned g (h ▷ step s)
+
+-- a list without its STEPs
+abbrev pub plain : Event → History → History
+plain (claim s v) h = h ▷ claim s v
+plain (deliver t s) h = h ▷ deliver t s
+plain (step s) h = h
+plain (lose s) h = h ▷ lose s
+plain (answer b a) h = h ▷ answer b a
+
+abbrev pub without-steps : History → History
+without-steps start = start
+without-steps (h ▷ e) = plain e (without-steps h)
 
 -- Where a process that sees x is on its way in the event that begins at p: it stands at p still, or it has done lines of the event,
 -- none of which led to a stop, and stands at q.
@@ -51,3 +64,6 @@ pub record Single-lines : Type 0 where
   pub lines : (o : Opening) (h : History) → (g : History) × Thinned h g × (lines-after o g ≡ figure-after o h)
   -- four lines after the first are enough: an event that ends by going on ends at a stop; a broadcast or a proposal ends it too
   pub stops : (r : Rule) (x : View) (p q : figure-by r .Place) → event (figure-by r) x p ≡ goes q → figure-by r .stop q ≡ true
+  -- a list with STEPs left out has every other event still, in order; a process inside an event stands at its beginning, or at no stop
+  pub steps-alone : (g h : History) → Thinned g h → without-steps g ≡ without-steps h
+  pub at-no-stop : (r : Rule) (x : View) (p q : figure-by r .Place) → Inside (figure-by r) x p q → (p ≡ q) ⊎ (figure-by r .stop q ≡ false)

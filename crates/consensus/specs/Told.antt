@@ -1,15 +1,15 @@
 -- The words of demand 3 are what the play's state shows, both ways: so none of them can be empty or too wide without notice. Assumes nothing.
-use Prim.Native.Nat.{ℕ, _≤_}
+use Prim.Native.Nat.{ℕ, _≤_, _<_}
 use mathlib.Core.Path.{_≡_}
 use mathlib.Core.Logic.{_↔_, _⊎_}
 use mathlib.Core.Bool.{Bool, true}
 use mathlib.Core.Option.{Option, none, some}
 use mathlib.Core.List.{List, [], _∷_}
 use Rattle.bits.specs.Digits.{bitLength}
-use Rattle.consensus.specs.Events.{History, Opening}
-use Rattle.consensus.specs.State.{Stage, idle, waiting, voting, awaiting, seeking, finish-voting, finish-awaiting, decided, claimed, claim-of, held, answered}
+use Rattle.consensus.specs.Events.{claim, History, start, _▷_, Opening}
+use Rattle.consensus.specs.State.{Stage, idle, waiting, voting, awaiting, seeking, finish-voting, finish-awaiting, decided, State, claimed, claim-of, held, answered}
 use Rattle.consensus.specs.Rules.{bit-ballot, finish-ballot, after}
-use Rattle.consensus.specs.Terms.{decision, Put-in, Holds, Lost, Answered, first-answer, voted-in, waits-on, answers-taken, Decided, longest}
+use Rattle.consensus.specs.Terms.{Beginning, Claims-fit, decision, Put-in, Holds, Lost, Answered, first-answer, voted-in, waits-on, answers-taken, Decided, longest, Supplied}
 
 -- the ballot that a station at this stage waits on
 abbrev pub awaited : Opening → Stage → Option ℕ
@@ -21,6 +21,18 @@ awaited o (seeking j k d) = none
 awaited o (finish-voting j k d) = none
 awaited o (finish-awaiting j k d) = some (finish-ballot k)
 awaited o (decided v k) = none
+
+-- supplied, on the state: p holds its own claim and every claim that any station holds, and the ballot that its stage awaits is answered
+abbrev pub Supplied-in : Opening → State → ℕ → Type 0
+Supplied-in o st p =
+    (held st p p ≡ true)
+    × ((s t : ℕ) → held st s t ≡ true → held st p t ≡ true)
+    × ((b : ℕ) → awaited o (st .station p .stage) ≡ some b → answered (st .answer-of b) ≡ true)
+
+-- the list g, and then the list h
+abbrev pub followed-by : History → History → History
+followed-by g start = g
+followed-by g (h ▷ e) = followed-by g h ▷ e
 
 -- x stands in the list
 abbrev pub Listed : {A : Type 0} → A → List A → Type 0
@@ -43,7 +55,11 @@ module _ (o : Opening) (h : History) where
     -- K: no claim put in is longer, and one is as long, unless nothing was put in
     pub none-longer : (s v : ℕ) → Put-in o s v h → bitLength v ≤ longest o h
     pub as-long : (longest o h ≡ 0) ⊎ ((s : ℕ) × (v : ℕ) × Put-in o s v h × (bitLength v ≡ longest o h))
+    pub is-supplied : (p : ℕ) → Supplied o p h ↔ Supplied-in o (after o h) p
 
 -- every opening, every list
 pub record Told : Type 0 where
   pub words : (o : Opening) (h : History) → Words-told o h
+  -- a beginning of a list is what more events make that list of; "a claim is a whole number from 0 to 2^32 − 1", each claim of the list
+  pub beginnings : (g h : History) → Beginning g h ↔ ((l : History) × (h ≡ followed-by g l))
+  pub claims : (h : History) → Claims-fit h ↔ ((g : History) (s v : ℕ) → Beginning (g ▷ claim s v) h → v < 4294967296)
