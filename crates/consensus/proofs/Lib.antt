@@ -20,6 +20,7 @@ pub mod Reached
 pub mod Station
 -- Demand 3:
 --     Accepted     an accepted event is what the state shows
+--     Frame        what an event does not name stays
 --     Told         what the list tells of a station is what its stage says
 --     Listed       what stands in the lists of votes and answers
 --     Beginnings   beginnings of a list, and the claims in it
@@ -31,6 +32,7 @@ pub mod Station
 --     Demand3      demand 3 about the play
 --     Edges        its words at their edges
 pub mod Accepted
+pub mod Frame
 pub mod Told
 pub mod Listed
 pub mod Beginnings

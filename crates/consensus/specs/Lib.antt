@@ -2,6 +2,7 @@
 --     Events      the events and lists of them; openings
 --     State       what the play keeps of each station and each ballot
 --     Rules       what each event is refused for, and what it does (document 01)
+--     Frame       what an event does not name stays
 --     Terms       the words of demand 3, read off a list of events
 --     Told        the words are what the play's state shows
 --     Demand3     demand 3 about the play
@@ -19,6 +20,7 @@ pub mod Events
 pub mod State
 pub mod Rules
 pub mod Terms
+pub mod Frame
 pub mod Told
 pub mod Demand3
 pub mod Figure
