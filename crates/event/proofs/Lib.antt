@@ -1,3 +1,7 @@
 -- Laws that belong to no one function.
+--     Frame     what an event does not name stays
+--     Kept      what no accepted event takes back
 --     Examples  the worked rows, computed
+pub mod Frame
+pub mod Kept
 pub mod Examples

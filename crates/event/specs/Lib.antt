@@ -5,10 +5,12 @@
 --     Tests     what each event is turned away for, in order
 --     Step      what one STEP does
 --     Change    the five events, whole
+--     Frame     what an event does not name stays
 --     Examples  worked rows, with literal numbers
 pub mod Meant
 pub mod Places
 pub mod Tests
 pub mod Step
 pub mod Change
+pub mod Frame
 pub mod Examples

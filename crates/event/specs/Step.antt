@@ -20,9 +20,12 @@ abbrev pub next-round : ℕ → ℕ
 next-round k = (k + 1) % 256
 
 -- "Waiting, own claim held: j becomes the station's own number, the stage voting. With rule 1 and n = 1 it decides its own claim at once."
+abbrev pub at-once : View → Bool
+at-once v = by-station (v .rule) && eqb (v .count) 1
+
 unfoldable pub started : View → ℕ → Station
 started v s =
-    cond (by-station (v .rule) && eqb (v .count) 1)
+    cond (at-once v)
     (moved Decided s (v .own .round) (v .own .word) (v .own .claim) (v .own))
     (moved Voting s (v .own .round) (v .own .word) (v .own .decision) (v .own))
 
@@ -43,18 +46,24 @@ finish-taken v =
     (moved Voting (v .own .cursor) (next-round (v .own .round)) (v .own .word) (v .own .decision) (v .own))
 
 -- "seeking ends: rule 1 decides the claim of j if k + 1 = R, otherwise adds 1 to k and is voting; rule 2 is voting on ballot 2k+1"
+abbrev pub last-round : View → Bool
+last-round v = eqb (v .own .round + 1) (ceilLog2 (v .count))
+
 unfoldable pub found : View → ℕ → Station
 found v j =
     cond (by-station (v .rule))
-    (cond (eqb (v .own .round + 1) (ceilLog2 (v .count)))
+    (cond (last-round v)
     (moved Decided j (v .own .round) (v .own .word) (v .beside .claim) (v .own))
     (moved Voting j (next-round (v .own .round)) (v .own .word) (v .own .decision) (v .own)))
     (moved FinishVoting j (v .own .round) (v .own .word) (v .own .decision) (v .own))
 
 -- "If the claim of j is held, and the low k+1 bits of d equal those of j (rule 1) or of its claim (rule 2), seeking ends. If not, it stays seeking"
+abbrev pub seeking-ends : View → ℕ → Bool
+seeking-ends v j = member j (v .own .held) && lowAgree (v .own .round) (v .own .word) (spelled (v .rule) j (v .beside .claim))
+
 unfoldable pub sought : View → ℕ → Station
 sought v j =
-    cond (member j (v .own .held) && lowAgree (v .own .round) (v .own .word) (spelled (v .rule) j (v .beside .claim)))
+    cond (seeking-ends v j)
     (found v j)
     (moved Seeking j (v .own .round) (v .own .word) (v .own .decision) (v .own))
 
@@ -74,9 +83,13 @@ stepped v s Decided = v .own
 abbrev pub bit-voted : View → Bool
 bit-voted v = bit (v .own .round) (spelled (v .rule) (v .own .cursor) (v .beside .claim))
 
--- the ballot's entry after it: "in ballot 2k+1 it casts 1 if d equals the whole claim of j, otherwise 0"
+-- "in ballot 2k+1 it casts 1 if d equals the whole claim of j, otherwise 0"
+abbrev pub finish-voted : View → Bool
+finish-voted v = eqb (v .own .word) (v .beside .claim)
+
+-- the ballot's entry after it
 unfoldable pub voted : View → Stage → Ballot
 voted v g =
     cond (at Voting g)
     (casting (bit-voted v) (v .ballot))
-    (cond (at FinishVoting g) (casting (eqb (v .own .word) (v .beside .claim)) (v .ballot)) (v .ballot))
+    (cond (at FinishVoting g) (casting (finish-voted v) (v .ballot)) (v .ballot))

@@ -1,0 +1,189 @@
+-- What no accepted event takes back: an accepted event met none of its tests, so a lost, decided or claiming station and an answered ballot are
+-- touched only by events that leave the part as it was. Assumes nothing.
+use Prim.Native.Nat.{ℕ}
+use mathlib.Core.Path.{_≡_, refl, sym, ap, _∙_}
+use mathlib.Core.Bool.{Bool, true, false, cond, not, _||_, true≢false}
+use lib.Dec.{eqb, ltb}
+use borrow.Author.Tests.{eqb-true, eqb-false, ltb-true, ltb-false}
+use Rattle.basics.specs.Tests.{first-met}
+use Rattle.basics.proofs.Bools.{by-bool, cond-ind, no-clash, not-false→true}
+use Rattle.basics.proofs.Refusals.{refused-not}
+use Rattle.bits.specs.Words.{maskBits, member, insert}
+use Rattle.bits.proofs.Words.{word-outside}
+use Rattle.bits.proofs.Masks.{member-same, member-other}
+use Rattle.consensus.specs.Events.{Event, claim, deliver, step, lose, answer}
+use Rattle.consensus.specs.Rules.{as-bit}
+use Rattle.entry.specs.declared.entry.Stage.{Stage}
+use Rattle.entry.specs.declared.entry.Stage.the-variants.{Idle, Waiting, Voting, Awaiting, Seeking, FinishVoting, FinishAwaiting, Decided}
+use Rattle.entry.specs.declared.entry.Station.{Station}
+use Rattle.entry.specs.declared.entry.Ballot.{Ballot}
+use Rattle.event.specs.declared.view.View.{View}
+use Rattle.entry.specs.Stages.{at, not-idle, is-decided}
+use Rattle.entry.specs.Entries.{no-station, ballots, by-station, was-cast, moved, casting, answering}
+use Rattle.event.specs.Places.{next-cursor}
+use Rattle.event.specs.Step.{at-once, last-round, seeking-ends, bit-voted, finish-voted, started, bit-taken, finish-taken, found, sought, stepped, voted}
+use Rattle.event.specs.Change.{number-on, own-after, ballot-after}
+use Rattle.event.specs.Frame.{Kept, Never-taken-back}
+
+-- ---- a claim held stays held
+
+insert-outside : (t mask : ℕ) → ltb t maskBits ≡ false → insert t mask ≡ mask
+unfolding insert
+insert-outside t mask e = word-outside maskBits t true mask (ltb-false t maskBits e)
+
+held-grows : (i t mask : ℕ) → member i mask ≡ true → member i (insert t mask) ≡ true
+held-grows i t mask m = by-bool (eqb i t) (λ p. same (eqb-true i t p)) (λ p. member-other i t mask (eqb-false i t p) ∙ m)
+  where
+    same : i ≡ t → member i (insert t mask) ≡ true
+    same q =
+        by-bool (ltb t maskBits) (λ l. ap (λ (x : ℕ). member x (insert t mask)) q ∙ member-same t mask (ltb-true t maskBits l))
+        (λ l. ap (member i) (insert-outside t mask l) ∙ m)
+
+-- ---- CLAIM, DELIVER, LOSE and ANSWER
+
+claim-kept : (v : View) (s c : ℕ) → number-on v (claim s c) ≡ 0 → Kept v (claim s c)
+unfolding first-met own-after ballot-after
+claim-kept v s c e =
+    let lives = refused-not (v .own .lost) 2 _ refl (refused-not (no-station (v .count) s) 1 _ refl e .1) in
+    let idle = refused-not (not-idle (v .own .stage)) 3 0 refl (lives .1) .0 in
+    record {
+      lost = λ p. no-clash (v .own .lost) p (lives .0);
+      put-in = λ p. refl;
+      claim-stays = λ p. no-clash (not-idle (v .own .stage)) p idle;
+      held = λ i p. p;
+      decided = λ p. no-clash (not-idle (v .own .stage)) (ap not-idle p) idle;
+      decision = λ p. refl;
+      round = λ p. refl;
+      cast = λ a p. p;
+      answered = λ p. p;
+      answer-stays = λ p. refl;
+    }
+
+deliver-kept : (v : View) (t s : ℕ) → number-on v (deliver t s) ≡ 0 → Kept v (deliver t s)
+unfolding first-met own-after ballot-after
+deliver-kept v t s e =
+    let lives = refused-not (v .own .lost) 2 _ refl (refused-not (no-station (v .count) t || no-station (v .count) s) 1 _ refl e .1) .0 in
+    record {
+      lost = λ p. no-clash (v .own .lost) p lives;
+      put-in = λ p. p;
+      claim-stays = λ p. refl;
+      held = λ i p. held-grows i t (v .own .held) p;
+      decided = λ p. p;
+      decision = λ p. refl;
+      round = λ p. refl;
+      cast = λ a p. p;
+      answered = λ p. p;
+      answer-stays = λ p. refl;
+    }
+
+lose-kept : (v : View) (s : ℕ) → number-on v (lose s) ≡ 0 → Kept v (lose s)
+unfolding first-met own-after ballot-after
+lose-kept v s e =
+    let lives = refused-not (v .own .lost) 2 _ refl (refused-not (no-station (v .count) s) 1 _ refl e .1) .0 in
+    record {
+      lost = λ p. no-clash (v .own .lost) p lives;
+      put-in = λ p. p;
+      claim-stays = λ p. refl;
+      held = λ i p. p;
+      decided = λ p. p;
+      decision = λ p. refl;
+      round = λ p. refl;
+      cast = λ a p. p;
+      answered = λ p. p;
+      answer-stays = λ p. refl;
+    }
+
+answer-cast : (t : Ballot) (x a : Bool) → was-cast t a ≡ true → was-cast (answering x t) a ≡ true
+answer-cast t x true p = p
+answer-cast t x false p = p
+
+answer-kept : (v : View) (b a : ℕ) → number-on v (answer b a) ≡ 0 → Kept v (answer b a)
+unfolding first-met own-after ballot-after
+answer-kept v b a e =
+    let first = refused-not (not (ltb b (ballots (v .count) (v .rule)))) 9 _ refl e .1 in
+    let open-yet = refused-not (v .ballot .answered) 11 _ refl (refused-not (ltb 1 a) 10 _ refl first .1) .0 in
+    record {
+      lost = λ p. refl;
+      put-in = λ p. p;
+      claim-stays = λ p. refl;
+      held = λ i p. p;
+      decided = λ p. p;
+      decision = λ p. refl;
+      round = λ p. refl;
+      cast = answer-cast (v .ballot) (as-bit a);
+      answered = λ p. refl;
+      answer-stays = λ p. no-clash (v .ballot .answered) p open-yet;
+    }
+
+-- ---- STEP: of the own entry, a claim and what is held stay, and it is past idle afterwards
+
+record Onward (t u : Station) : Type 0 where
+  stage : not-idle (u .stage) ≡ true
+  claim : u .claim ≡ t .claim
+  held : u .held ≡ t .held
+
+moved-on : {t : Station} {g : Stage} {j k d v : ℕ} → not-idle g ≡ true → Onward t (moved g j k d v t)
+moved-on p = record { stage = p; claim = refl; held = refl }
+
+onward : (v : View) (s : ℕ) (g : Stage) → g ≡ v .own .stage → not-idle g ≡ true → Onward (v .own) (stepped v s g)
+unfolding stepped started bit-taken finish-taken found sought
+onward v s Idle q p = absurd (true≢false (sym p))
+onward v s Waiting q p = cond-ind (Onward (v .own)) (at-once v) _ _ (λ b. moved-on refl) (λ b. moved-on refl)
+onward v s Voting q p = moved-on refl
+onward v s Awaiting q p = moved-on refl
+onward v s Seeking q p =
+    cond-ind (Onward (v .own)) (seeking-ends v (next-cursor (v .count) (v .own .cursor))) _ _
+    (λ b. cond-ind (Onward (v .own)) (by-station (v .rule)) _ _ (λ c. cond-ind (Onward (v .own)) (last-round v) _ _ (λ d. moved-on refl) (λ d. moved-on refl)) (λ c. moved-on refl))
+    (λ b. moved-on refl)
+onward v s FinishVoting q p = moved-on refl
+onward v s FinishAwaiting q p = cond-ind (Onward (v .own)) (v .ballot .answer) _ _ (λ b. moved-on refl) (λ b. moved-on refl)
+onward v s Decided q p = record { stage = ap not-idle (sym q) ∙ p; claim = refl; held = refl }
+
+-- of the ballot: a bit cast stays cast, and the answer stays
+record Marked (b c : Ballot) : Type 0 where
+  cast : (a : Bool) → was-cast b a ≡ true → was-cast c a ≡ true
+  answered : c .answered ≡ b .answered
+  answer : c .answer ≡ b .answer
+
+casting-cast : (x a : Bool) (b : Ballot) → was-cast b a ≡ true → was-cast (casting x b) a ≡ true
+casting-cast true true b p = refl
+casting-cast true false b p = p
+casting-cast false true b p = p
+casting-cast false false b p = refl
+
+marked : (v : View) (g : Stage) → Marked (v .ballot) (voted v g)
+unfolding voted
+marked v g =
+    cond-ind (Marked (v .ballot)) (at Voting g) _ _ (λ p. cast-in (bit-voted v))
+    (λ p. cond-ind (Marked (v .ballot)) (at FinishVoting g) _ _ (λ q. cast-in (finish-voted v)) (λ q. record { cast = λ a c. c; answered = refl; answer = refl }))
+  where
+    cast-in : (x : Bool) → Marked (v .ballot) (casting x (v .ballot))
+    cast-in x = record { cast = λ a c. casting-cast x a (v .ballot) c; answered = refl; answer = refl }
+
+step-kept : (v : View) (s : ℕ) → number-on v (step s) ≡ 0 → Kept v (step s)
+unfolding first-met own-after ballot-after
+step-kept v s e =
+    let lives = refused-not (v .own .lost) 2 _ refl (refused-not (no-station (v .count) s) 1 _ refl e .1) in
+    let late = refused-not (not (not-idle (v .own .stage))) 6 _ refl (lives .1) in
+    let under-way = refused-not (is-decided (v .own .stage)) 7 _ refl (late .1) .0 in
+    let on = onward v s (v .own .stage) refl (not-false→true (not-idle (v .own .stage)) (late .0)) in
+    let marks = marked v (v .own .stage) in
+    record {
+      lost = λ p. no-clash (v .own .lost) p (lives .0);
+      put-in = λ p. on .stage;
+      claim-stays = λ p. on .claim;
+      held = λ i p. ap (member i) (on .held) ∙ p;
+      decided = λ p. no-clash (is-decided (v .own .stage)) (ap is-decided p) under-way;
+      decision = λ p. no-clash (is-decided (v .own .stage)) (ap is-decided p) under-way;
+      round = λ p. no-clash (is-decided (v .own .stage)) (ap is-decided p) under-way;
+      cast = marks .cast;
+      answered = λ p. marks .answered ∙ p;
+      answer-stays = λ p. marks .answer;
+    }
+
+pub never-taken-back : Never-taken-back
+never-taken-back v (claim s c) e = claim-kept v s c e
+never-taken-back v (deliver t s) e = deliver-kept v t s e
+never-taken-back v (step s) e = step-kept v s e
+never-taken-back v (lose s) e = lose-kept v s e
+never-taken-back v (answer b a) e = answer-kept v b a e
