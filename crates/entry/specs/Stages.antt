@@ -1,7 +1,9 @@
 -- The stages (document 01, "The settlement": "idle (no claim put in), waiting, voting, awaiting, seeking, decided. Rule 2 has voting and awaiting for the
 -- bit ballot and for the finish ballot"). Assumes nothing.
 use Prim.Native.Nat.{ℕ}
-use mathlib.Core.Bool.{Bool, not, _||_}
+use mathlib.Core.Path.{_≡_}
+use mathlib.Core.Logic.{_↔_}
+use mathlib.Core.Bool.{Bool, true, not, _||_}
 use lib.Dec.{eqb}
 use Rattle.entry.specs.declared.entry.Stage.{Stage}
 use Rattle.entry.specs.declared.entry.Stage.the-variants.{Idle, Waiting, Voting, Awaiting, Seeking, FinishVoting, FinishAwaiting, Decided}
@@ -20,6 +22,10 @@ rank Decided = 7
 -- a station at the stage g is at the stage x
 abbrev pub at : Stage → Stage → Bool
 at x g = eqb (rank g) (rank x)
+
+-- the table tells the stages apart: to be at a stage is to be that stage
+abbrev pub Told-apart : Type 0
+Told-apart = (x g : Stage) → (at x g ≡ true) ↔ (g ≡ x)
 
 -- a station has put in a claim once it is not idle
 abbrev pub not-idle : Stage → Bool

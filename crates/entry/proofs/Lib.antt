@@ -1,0 +1,3 @@
+-- Laws that belong to no one function.
+--     Stages  the table of the stages tells them apart
+pub mod Stages
