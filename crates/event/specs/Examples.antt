@@ -180,12 +180,14 @@ entries =
     ∷ leaves (seen 4 2 (live Seeking 6 7 1 1 7 9) five yes) (step 1) (live Seeking 6 7 2 1 7 9) yes
     ∷ leaves (seen 4 1 (live Seeking 6 7 1 1 5 9) five yes) (step 1) (live Seeking 6 7 2 1 5 9) yes
     ∷ leaves (seen 32 1 (live Seeking 6 7 31 4 5 9) five no) (step 1) (live Seeking 6 7 0 4 5 9) no
+    ∷ leaves (seen 32 2 (live Seeking 6 7 15 0 5 9) five yes) (step 1) (live Seeking 6 7 16 0 5 9) yes
     -- it ends where the low k + 1 bits fit: by station the next round, or after the last one the claim; by claim the finish ballot
     ∷ leaves (seen 4 1 (live Seeking 6 7 1 0 4 9) five yes) (step 1) (live Voting 6 7 2 1 4 9) yes
     ∷ leaves (seen 4 1 (live Seeking 6 7 1 1 6 9) five no) (step 1) (live Decided 6 7 2 1 6 5) no
     ∷ leaves (seen 32 1 (live Seeking 1 7 31 4 32 9) five no) (step 1) (live Decided 1 7 0 4 32 5) no
     ∷ leaves (seen 32 1 (live Seeking 1 7 31 3 16 9) five no) (step 1) (live Voting 1 7 0 4 16 9) no
     ∷ leaves (seen 3 2 (live Seeking 1 7 2 1 13 9) five no) (step 1) (live FinishVoting 1 7 0 1 13 9) no
+    ∷ leaves (seen 32 2 (live Seeking 2147483648 7 30 0 5 9) five yes) (step 1) (live FinishVoting 2147483648 7 31 0 5 9) yes
     ∷ leaves (seen 1 2 (live Seeking 1 7 0 0 1 9) (live Seeking 1 7 0 0 1 9) yes) (step 0) (live FinishVoting 1 7 0 0 1 9) yes
     -- the finish vote: 1 for the whole claim, not for its low bits
     ∷ leaves (seen 2 2 (live FinishVoting 6 7 0 1 1 9) five (marks false false true true)) (step 1) (live FinishAwaiting 6 7 0 1 1 9) (marks true false true true)
