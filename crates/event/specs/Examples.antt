@@ -197,6 +197,8 @@ entries =
     ∷ leaves (seen 32 2 (live FinishAwaiting 6 7 1 31 5 9) five yes) (step 1) (live Decided 6 7 1 31 5 5) yes
     ∷ leaves (seen 2 2 (made FinishAwaiting) five no) (step 1) (live Voting 6 7 1 4 5 9) no
     ∷ leaves (seen 1 2 (live FinishAwaiting 6 7 0 30 5 9) five no) (step 0) (live Voting 6 7 0 31 5 9) no
+    -- a round is a byte; the record test turns such a record away before
+    ∷ leaves (seen 2 2 (live FinishAwaiting 6 7 1 255 5 9) five no) (step 1) (live Voting 6 7 1 0 5 9) no
     ∷ []
 
 -- the station, the one beside it and the ballot; round 3 by station, by claim, and whether to finish; the cursor, and the next one around
@@ -211,6 +213,10 @@ places =
     ∷ looks (alone 32 2 (live Seeking 0 0 4 3 0 0)) (step 1) 1 5 0
     ∷ looks (alone 32 2 (live Seeking 0 0 31 3 0 0)) (step 1) 1 0 0
     ∷ looks (alone 1 2 (live Seeking 0 0 0 3 0 0)) (step 0) 0 0 0
+    -- a cursor that is no station; the record test turns such a record away before
+    ∷ looks (alone 4 1 (live Seeking 0 0 9 0 0 0)) (step 1) 1 2 0
+    ∷ looks (alone 0 1 (live Seeking 0 0 9 0 0 0)) (step 1) 1 0 0
+    -- the other events
     ∷ looks (alone 32 2 (live Seeking 0 0 4 3 0 0)) (deliver 9 1) 1 9 0
     ∷ looks (alone 32 2 (live Seeking 0 0 4 3 0 0)) (claim 2 7) 2 2 0
     ∷ looks (alone 32 2 (live Seeking 0 0 4 3 0 0)) (lose 2) 2 2 0
