@@ -1,7 +1,9 @@
 -- Laws that belong to no one function.
+--     Numbers   the numbers in the document's words
 --     Frame     what an event does not name stays
 --     Kept      what no accepted event takes back
 --     Examples  the worked rows, computed
+pub mod Numbers
 pub mod Frame
 pub mod Kept
 pub mod Examples

@@ -98,6 +98,7 @@ numbers =
     ∷ gives (seen 2 1 (gone Idle) five no) (deliver 1 0) 2
     ∷ gives (seen 2 1 (made Idle) blank-station no) (deliver 0 1) 4
     ∷ gives (seen 2 1 (made Idle) blank-station no) (deliver 1 0) 4
+    ∷ gives (seen 2 1 (made Idle) (made Idle) no) (deliver 0 1) 4
     ∷ gives (seen 2 1 (made Idle) five no) (deliver 1 0) 5
     ∷ gives (seen 32 2 (live Idle 2147483648 0 0 0 0 0) five no) (deliver 31 1) 5
     -- STEP: 1, 2, 6, 7, 8, 42
@@ -117,6 +118,7 @@ numbers =
     ∷ gives (seen 2 1 (made Decided) five no) (step 1) 7
     ∷ gives (alone 2 1 (made Waiting)) (step 0) 8
     ∷ gives (alone 2 1 (made Awaiting)) (step 1) 8
+    ∷ gives (seen 2 1 (made Awaiting) five (marks true true false true)) (step 1) 8
     ∷ gives (seen 2 2 (made FinishAwaiting) five (marks true true false true)) (step 1) 8
     ∷ gives (seen 2 2 (live FinishAwaiting 6 7 1 31 5 9) five (marks true true false false)) (step 1) 8
     ∷ gives (seen 2 2 (live FinishAwaiting 6 7 1 31 5 9) five no) (step 1) 42
@@ -171,9 +173,12 @@ entries =
     ∷ leaves (seen 4 1 (live Voting 6 7 1 1 5 9) (made Waiting) (marks true true false false)) (step 1) (live Awaiting 6 7 1 1 5 9) (marks true true false false)
     ∷ leaves (seen 32 1 (live Voting 6 7 16 4 5 9) five (marks true false false true)) (step 1) (live Awaiting 6 7 16 4 5 9) (marks true true false true)
     ∷ leaves (seen 32 2 (live Voting 6 7 31 31 5 9) (live Decided 0 2147483648 0 0 0 0) blank-ballot) (step 1) (live Awaiting 6 7 31 31 5 9) (marks false true false false)
-    -- awaiting: the answer becomes bit k of the word
+    ∷ leaves (seen 4 2 (live Voting 6 7 2 0 5 9) (made Idle) blank-ballot) (step 1) (live Awaiting 6 7 2 0 5 9) (marks false true false false)
+    -- awaiting: the answer becomes bit k of the word, whatever stood there
     ∷ leaves (seen 32 1 (made Awaiting) five yes) (step 1) (live Seeking 6 7 1 3 13 9) yes
     ∷ leaves (seen 2 2 (live Awaiting 6 7 1 2 5 9) five no) (step 1) (live Seeking 6 7 1 2 1 9) no
+    ∷ leaves (seen 2 2 (live Awaiting 6 7 1 2 5 9) five yes) (step 1) (live Seeking 6 7 1 2 5 9) yes
+    ∷ leaves (seen 2 2 (live Awaiting 6 7 1 1 5 9) five no) (step 1) (live Seeking 6 7 1 1 5 9) no
     ∷ leaves (seen 1 2 (live Awaiting 6 7 0 31 5 9) five yes) (step 0) (live Seeking 6 7 0 31 2147483653 9) yes
     -- seeking: the cursor moves first, around the n stations; a claim that is not held, or that does not fit, is passed over
     ∷ leaves (seen 3 2 (live Seeking 6 7 2 0 5 9) five no) (step 1) (live Seeking 6 7 0 0 5 9) no
@@ -187,11 +192,15 @@ entries =
     ∷ leaves (seen 32 1 (live Seeking 1 7 31 4 32 9) five no) (step 1) (live Decided 1 7 0 4 32 5) no
     ∷ leaves (seen 32 1 (live Seeking 1 7 31 3 16 9) five no) (step 1) (live Voting 1 7 0 4 16 9) no
     ∷ leaves (seen 3 2 (live Seeking 1 7 2 1 13 9) five no) (step 1) (live FinishVoting 1 7 0 1 13 9) no
+    ∷ leaves (seen 4 2 (live Seeking 6 7 1 0 5 9) (made Idle) no) (step 1) (live FinishVoting 6 7 2 0 5 9) no
     ∷ leaves (seen 32 2 (live Seeking 2147483648 7 30 0 5 9) five yes) (step 1) (live FinishVoting 2147483648 7 31 0 5 9) yes
     ∷ leaves (seen 1 2 (live Seeking 1 7 0 0 1 9) (live Seeking 1 7 0 0 1 9) yes) (step 0) (live FinishVoting 1 7 0 0 1 9) yes
     -- the finish vote: 1 for the whole claim, not for its low bits
     ∷ leaves (seen 2 2 (live FinishVoting 6 7 0 1 1 9) five (marks false false true true)) (step 1) (live FinishAwaiting 6 7 0 1 1 9) (marks true false true true)
     ∷ leaves (seen 32 2 (live FinishVoting 6 7 0 2 5 9) five (marks false false true false)) (step 1) (live FinishAwaiting 6 7 0 2 5 9) (marks false true true false)
+    ∷ leaves (seen 2 2 (live FinishVoting 6 7 0 0 5 9) five blank-ballot) (step 1) (live FinishAwaiting 6 7 0 0 5 9) (marks false true false false)
+    ∷ leaves (seen 2 2 (live FinishVoting 6 7 0 0 5 9) (live Waiting 0 1 0 0 0 0) blank-ballot) (step 1) (live FinishAwaiting 6 7 0 0 5 9) (marks true false false false)
+    ∷ leaves (seen 2 2 (live FinishVoting 6 7 0 0 0 9) blank-station blank-ballot) (step 1) (live FinishAwaiting 6 7 0 0 0 9) (marks false true false false)
     -- the finish answer: 1 decides the word, in the last ballot too; 0 begins the next round
     ∷ leaves (seen 2 2 (made FinishAwaiting) five yes) (step 1) (live Decided 6 7 1 3 5 5) yes
     ∷ leaves (seen 32 2 (live FinishAwaiting 6 7 1 31 5 9) five yes) (step 1) (live Decided 6 7 1 31 5 5) yes

@@ -5,6 +5,7 @@
 --     Tests     what each event is turned away for, in order
 --     Step      what one STEP does
 --     Change    the five events, whole
+--     Numbers   the numbers in the document's words
 --     Frame     what an event does not name stays
 --     Examples  worked rows, with literal numbers
 pub mod Meant
@@ -12,5 +13,6 @@ pub mod Places
 pub mod Tests
 pub mod Step
 pub mod Change
+pub mod Numbers
 pub mod Frame
 pub mod Examples
