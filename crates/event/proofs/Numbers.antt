@@ -24,7 +24,7 @@ use Rattle.event.specs.Numbers.{Met, Must-wait, Takes-last-no, Nobody-ca
 
 -- ---- tests and sentences
 
-abbrev Tells : Bool → Type 0 → Type 0
+abbrev pub Tells : Bool → Type 0 → Type 0
 Tells b P = (b ≡ true) ↔ P
 
 is : (b : Bool) → Tells b (b ≡ true)
@@ -38,7 +38,7 @@ tells-not : {P : Type 0} (b : Bool) → Tells b P → Tells (not b) (P → ⊥)
 tells-not true t = (λ e. absurd (true≢false (sym e)), λ f. absurd (f (t .0 refl)))
 tells-not false t = (λ e p. true≢false (sym (t .1 p)), λ f. refl)
 
-tells-and : {P Q : Type 0} (a b : Bool) → Tells a P → Tells b Q → Tells (a && b) (P × Q)
+pub tells-and : {P Q : Type 0} (a b : Bool) → Tells a P → Tells b Q → Tells (a && b) (P × Q)
 tells-and true b t u = (λ e. (t .0 refl, u .0 e), λ p. u .1 (p .1))
 tells-and false b t u = (λ e. absurd (true≢false (sym e)), λ p. t .1 (p .0))
 
@@ -50,7 +50,7 @@ tells-or false b t u = (λ e. inr (u .0 e), λ p. ⊎-elim (λ q. absurd (true�
 past : (n s : ℕ) → Tells (not (ltb s n)) (n ≤ s)
 past n s = (λ e. ltb-false s n (not-true (ltb s n) e), λ l. ap not (le-ltb s n l))
 
-equal : (a b : ℕ) → Tells (eqb a b) (a ≡ b)
+pub equal : (a b : ℕ) → Tells (eqb a b) (a ≡ b)
 equal a b = (eqb-true a b, eq-eqb a b)
 
 -- the test is met, or the later ones decide

@@ -6,6 +6,7 @@
 --     Step      what one STEP does
 --     Change    the five events, whole
 --     Numbers   the numbers in the document's words
+--     Said      what an event makes of the parts that it names, in the document's words
 --     Frame     what an event does not name stays
 --     Examples  worked rows, with literal numbers
 pub mod Meant
@@ -14,5 +15,6 @@ pub mod Tests
 pub mod Step
 pub mod Change
 pub mod Numbers
+pub mod Said
 pub mod Frame
 pub mod Examples
