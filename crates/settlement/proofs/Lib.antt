@@ -4,6 +4,8 @@
 --     Places    an event may be played on the entries at its places in the arrays
 --     Votes     the votes that LOOK shows fit a byte
 --     Demand1   demand 1
+--     Stays     what an event leaves as it was
+--     Laws      what document 01 says of every record
 --     Edges     the edges of the record test, computed
 --     Link      the record and the play go side by side, so demands 2 and 3 hold of the operations
 pub mod Refusals
@@ -12,4 +14,6 @@ pub mod Places
 pub mod Votes
 pub mod Demand1
 pub mod Link
+pub mod Stays
+pub mod Laws
 pub mod Edges

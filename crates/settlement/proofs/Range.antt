@@ -24,7 +24,7 @@ unless : (a b : Bool) → (a && b) ≡ false → a ≡ true → b ≡ false
 unless true b h e = h
 unless false b h e = no-clash false e refl
 
-other : (a b : Bool) → (a || b) ≡ true → a ≡ false → b ≡ true
+pub other : (a b : Bool) → (a || b) ≡ true → a ≡ false → b ≡ true
 other true b h e = no-clash true refl e
 other false b h e = h
 
