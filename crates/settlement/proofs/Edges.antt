@@ -3,17 +3,17 @@ use mathlib.Core.Path.{_≡_, refl}
 use mathlib.Core.Bool.{true}
 use Rattle.bits.specs.Examples.{every}
 use Rattle.bits.specs.Digits.{bit, binaryDigits, digitsIn}
-use Rattle.bits.specs.Words.{member}
+use Rattle.bits.specs.Words.{withBit, wordWithBit, lowAgree, member, insert}
 use Rattle.bits.specs.Log.{ceilLog2, leastFrom}
 use Rattle.basics.specs.Below.{any-below}
 use Rattle.settlement.specs.Fault.{station-fault, fault}
-use Rattle.settlement.specs.Events.{number, outcome, effect, played}
+use Rattle.settlement.specs.Events.{number, outcome, effect, opened, played}
 use Rattle.basics.specs.Tests.{first-met}
-use Rattle.event.specs.Step.{started, stepped, voted}
+use Rattle.event.specs.Step.{started, bit-taken, finish-taken, found, sought, stepped, voted}
 use Rattle.event.specs.Change.{own-after, ballot-after}
 use Rattle.settlement.specs.Look.{votes, looked}
 use Rattle.settlement.specs.Edges.{right, edges}
 
 pub edges-right : every right edges ≡ true
-unfolding bit binaryDigits digitsIn member ceilLog2 leastFrom any-below station-fault fault first-met own-after ballot-after voted number started stepped outcome effect played votes looked
+unfolding bit binaryDigits digitsIn withBit wordWithBit lowAgree member insert ceilLog2 leastFrom any-below station-fault fault first-met own-after ballot-after voted number started bit-taken finish-taken found sought stepped outcome effect opened played votes looked
 edges-right = refl

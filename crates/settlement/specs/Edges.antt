@@ -1,87 +1,243 @@
--- The edges of the record test and of made-up records as one list (document 01, "Every event and LOOK first test the
--- record"): a row is a record, an operation and what it answers. Assumes nothing.
+-- Edges, as one list of rows with literal numbers (document 01, "Operations and what they turn away"): a row is a record, made up mostly, an operation
+-- and what it answers or leaves. The entries are odd on purpose: no two fields have the same number, so a field that moves is seen. Assumes nothing.
 use Prim.Native.Nat.{ℕ}
-use mathlib.Core.Bool.{Bool, true, false}
-use mathlib.Core.List.{List, [], _∷_}
+use mathlib.Core.Bool.{Bool, true, false, _&&_, Bool·beq}
+use mathlib.Core.List.{List, [], _∷_, _++_}
 use lib.Dec.{eqb}
-use Rattle.consensus.specs.Events.{Event, step, lose, answer}
+use Rattle.consensus.specs.Events.{Event, claim, deliver, step, lose, answer}
 use Rattle.entry.specs.declared.entry.Stage.{Stage}
 use Rattle.entry.specs.declared.entry.Stage.the-variants.{Idle, Waiting, Voting, Awaiting, Seeking, FinishVoting, FinishAwaiting, Decided}
 use Rattle.entry.specs.declared.entry.Station.{Station}
+use Rattle.entry.specs.declared.entry.Ballot.{Ballot}
+use Rattle.entry.specs.Stages.{at}
 use Rattle.settlement.specs.declared.record.Settlement.{Settlement}
-use Rattle.settlement.specs.Record.{with-station, with-ballot}
-use Rattle.settlement.specs.Events.{number, fresh, played}
+use Rattle.settlement.specs.declared.record.Outcome.{Outcome}
+use Rattle.settlement.specs.declared.record.Standing.{Standing}
+use Rattle.settlement.specs.Record.{entry, ballot, with-station, with-ballot}
+use Rattle.settlement.specs.Events.{fresh, opened, played}
 use Rattle.settlement.specs.Look.{looked}
 
--- an event's number, LOOK's number, and the votes that LOOK shows after an event
+-- OPEN's number, and the count and the rule of the settlement that it answers; an event's number; the whole entry of station s after an event, and of
+-- ballot b; LOOK's whole answer
 pub data Row : Type 0 where
-  event-gives : Settlement → Event → ℕ → Row
-  look-gives : Settlement → ℕ → ℕ → Row
-  votes-after : Settlement → Event → ℕ → ℕ → Row
+  opens : (n rule number count rule-after : ℕ) → Row
+  gives : Settlement → Event → (number : ℕ) → Row
+  leaves : Settlement → Event → (s : ℕ) → Station → Row
+  leaves-ballot : Settlement → Event → (b : ℕ) → Ballot → Row
+  shows : Settlement → (s number : ℕ) → (decided : Bool) → (claim votes : ℕ) → Row
+
+abbrev same-outcome : Outcome → (number count rule : ℕ) → Bool
+same-outcome o k n rule = eqb (o .number) k && eqb (o .settlement .count) n && eqb (o .settlement .rule) rule
+
+abbrev same-station : Station → Station → Bool
+same-station t u =
+    at (u .stage) (t .stage) && Bool·beq (t .lost) (u .lost)
+    && eqb (t .held) (u .held) && eqb (t .claim) (u .claim) && eqb (t .cursor) (u .cursor) && eqb (t .round) (u .round)
+    && eqb (t .word) (u .word) && eqb (t .decision) (u .decision)
+
+abbrev same-ballot : Ballot → Ballot → Bool
+same-ballot t u =
+    Bool·beq (t .cast0) (u .cast0) && Bool·beq (t .cast1) (u .cast1) && Bool·beq (t .answered) (u .answered) && Bool·beq (t .answer) (u .answer)
+
+abbrev same-standing : Standing → ℕ → Bool → ℕ → ℕ → Bool
+same-standing x k d v m = eqb (x .number) k && Bool·beq (x .decided) d && eqb (x .claim) v && eqb (x .votes) m
 
 abbrev pub right : Row → Bool
-right (event-gives r e k) = eqb (number r e) k
-right (look-gives r s k) = eqb (looked r s .number) k
-right (votes-after r e s k) = eqb (looked (played r e .settlement) s .votes) k
+right (opens n rule k n′ rule′) = same-outcome (opened n rule) k n′ rule′
+right (gives r e k) = eqb (played r e .number) k
+right (leaves r e s t) = same-station (entry (played r e .settlement) s) t
+right (leaves-ballot r e b t) = same-ballot (ballot (played r e .settlement) b) t
+right (shows r s k d v m) = same-standing (looked r s) k d v m
 
--- an entry at a stage, with cursor and round; it holds the claims of the stations in the mask `held`
-abbrev entry-at : Stage → (held cursor round : ℕ) → Station
-entry-at g held cursor round =
-    record { stage = g; lost = false; held = held; claim = 0; cursor = cursor; round = round; word = 0; decision = 0 }
+-- ---- made-up records
 
--- n stations under a rule, the entry of station s made up
+-- a live station, and one lost
+abbrev live : Stage → (held claim cursor round word decision : ℕ) → Station
+live g h c j k d v = record { stage = g; lost = false; held = h; claim = c; cursor = j; round = k; word = d; decision = v }
+
+abbrev lost : Stage → (held claim cursor round word decision : ℕ) → Station
+lost g h c j k d v = record { stage = g; lost = true; held = h; claim = c; cursor = j; round = k; word = d; decision = v }
+
+-- a live station with a cursor and a round, and nothing else
+abbrev entry-at : Stage → (cursor round : ℕ) → Station
+entry-at g j k = live g 0 0 j k 0 0
+
+abbrev marks : (cast0 cast1 answered answer : Bool) → Ballot
+marks x y z a = record { cast0 = x; cast1 = y; answered = z; answer = a }
+
+-- n stations under a rule, the entry of station s made up; and that of station q, or of ballot b, too
 abbrev made-up : (n rule s : ℕ) → Station → Settlement
 made-up n rule s t = with-station s t (fresh n rule)
 
--- station 0 awaits the last finish ballot, which is answered so
-abbrev at-last : Bool → Bool → Settlement
-at-last yes-or-no bit =
-    with-ballot 63 (record { cast0 = true; cast1 = true; answered = yes-or-no; answer = bit }) (made-up 1 2 0 (entry-at FinishAwaiting 1 0 31))
+abbrev beside : (n rule s : ℕ) → Station → (q : ℕ) → Station → Settlement
+beside n rule s t q u = with-station q u (made-up n rule s t)
+
+abbrev at-ballot : (n rule s : ℕ) → Station → (b : ℕ) → Ballot → Settlement
+at-ballot n rule s t b u = with-ballot b u (made-up n rule s t)
+
+-- a LOSE of station 0 gives the number
+abbrev tests-to : (n rule s : ℕ) → Station → ℕ → Row
+tests-to n rule s t k = gives (made-up n rule s t) (lose 0) k
+
+-- ---- OPEN
+
+abbrev opening : List Row
+opening =
+    -- "n is 0 or above 32: 40. Rule neither 1 nor 2: 41. Refused, it returns the blank settlement: no stations, rule 1"
+    opens 0 1 40 0 1 ∷ opens 0 2 40 0 1 ∷ opens 33 1 40 0 1 ∷ opens 33 2 40 0 1 ∷ opens 255 2 40 0 1
+    ∷ opens 1 0 41 0 1 ∷ opens 1 3 41 0 1 ∷ opens 32 0 41 0 1 ∷ opens 32 3 41 0 1 ∷ opens 7 255 41 0 1
+    ∷ opens 0 0 40 0 1 ∷ opens 0 3 40 0 1 ∷ opens 33 0 40 0 1 ∷ opens 255 255 40 0 1
+    ∷ opens 1 1 0 1 1 ∷ opens 1 2 0 1 2 ∷ opens 32 1 0 32 1 ∷ opens 32 2 0 32 2
+    ∷ []
+
+-- ---- the record test, each clause on both sides and under both rules
+
+abbrev record-test : List Row
+record-test =
+    -- "more than 32 stations"
+    gives (fresh 33 1) (lose 0) 42 ∷ gives (fresh 33 2) (lose 0) 42 ∷ gives (fresh 255 1) (lose 0) 42
+    ∷ gives (fresh 32 1) (lose 0) 0 ∷ gives (fresh 32 2) (lose 0) 0
+    -- "a rule other than 1 or 2"
+    ∷ gives (fresh 3 0) (lose 0) 42 ∷ gives (fresh 3 3) (lose 0) 42 ∷ gives (fresh 3 255) (lose 0) 42 ∷ gives (fresh 0 0) (lose 0) 42
+    ∷ gives (fresh 3 1) (lose 0) 0 ∷ gives (fresh 3 2) (lose 0) 0
+    -- "a station below n whose cursor is n or more", at any stage
+    ∷ tests-to 3 1 0 (entry-at Waiting 3 0) 42 ∷ tests-to 3 1 0 (entry-at Waiting 2 0) 0
+    ∷ tests-to 3 2 0 (entry-at Waiting 3 0) 42 ∷ tests-to 3 2 0 (entry-at Waiting 2 0) 0
+    ∷ tests-to 3 1 2 (entry-at Idle 3 0) 42 ∷ tests-to 3 2 2 (entry-at Idle 3 0) 42
+    ∷ tests-to 3 1 2 (entry-at Decided 31 0) 42 ∷ tests-to 3 2 2 (entry-at Decided 31 0) 42
+    ∷ tests-to 3 2 1 (entry-at Voting 3 0) 42 ∷ tests-to 3 2 1 (entry-at Seeking 3 0) 42 ∷ tests-to 3 2 1 (lost Seeking 0 0 3 0 0 0) 42
+    ∷ tests-to 1 1 0 (entry-at Idle 1 0) 42 ∷ tests-to 1 2 0 (entry-at Idle 1 0) 42 ∷ tests-to 1 2 0 (entry-at Idle 0 0) 0
+    ∷ tests-to 32 1 31 (entry-at Idle 32 0) 42 ∷ tests-to 32 1 31 (entry-at Idle 31 0) 0
+    ∷ tests-to 32 2 31 (entry-at Idle 32 0) 42 ∷ tests-to 32 2 31 (entry-at Idle 31 0) 0
+    -- a station from n on is not tested
+    ∷ tests-to 3 1 3 (entry-at Waiting 200 0) 0 ∷ tests-to 3 2 3 (entry-at Waiting 200 0) 0
+    ∷ tests-to 4 1 4 (entry-at Voting 0 9) 0 ∷ tests-to 4 2 4 (entry-at Voting 0 32) 0
+    -- "a voting, awaiting or seeking station whose round is R or more under rule 1"
+    ∷ tests-to 4 1 0 (entry-at Voting 0 2) 42 ∷ tests-to 4 1 0 (entry-at Voting 0 1) 0 ∷ tests-to 4 2 0 (entry-at Voting 0 2) 0
+    ∷ tests-to 4 1 0 (entry-at Awaiting 0 2) 42 ∷ tests-to 4 1 0 (entry-at Awaiting 0 1) 0 ∷ tests-to 4 2 0 (entry-at Awaiting 0 2) 0
+    ∷ tests-to 4 1 3 (entry-at Seeking 0 2) 42 ∷ tests-to 4 1 3 (entry-at Seeking 0 1) 0 ∷ tests-to 4 2 3 (entry-at Seeking 0 2) 0
+    ∷ tests-to 1 1 0 (entry-at Voting 0 0) 42 ∷ tests-to 1 1 0 (entry-at Seeking 0 0) 42 ∷ tests-to 1 2 0 (entry-at Seeking 0 0) 0
+    ∷ tests-to 32 1 31 (entry-at Voting 0 5) 42 ∷ tests-to 32 1 31 (entry-at Voting 0 4) 0
+    ∷ tests-to 4 1 0 (entry-at Idle 0 255) 0 ∷ tests-to 4 1 0 (entry-at Waiting 0 255) 0 ∷ tests-to 4 1 0 (entry-at Decided 0 255) 0
+    -- "a station voting or awaiting on a finish ballot under rule 1"
+    ∷ tests-to 4 1 0 (entry-at FinishVoting 0 0) 42 ∷ tests-to 4 2 0 (entry-at FinishVoting 0 0) 0
+    ∷ tests-to 4 1 3 (entry-at FinishAwaiting 0 0) 42 ∷ tests-to 4 2 3 (entry-at FinishAwaiting 0 0) 0
+    -- "or a station past waiting whose round is 32 or more under rule 2"
+    ∷ tests-to 4 2 0 (entry-at Idle 0 32) 0 ∷ tests-to 4 2 0 (entry-at Waiting 0 32) 0 ∷ tests-to 4 2 0 (entry-at Waiting 0 255) 0
+    ∷ tests-to 4 2 0 (entry-at Voting 0 31) 0 ∷ tests-to 4 2 0 (entry-at Voting 0 32) 42
+    ∷ tests-to 4 2 0 (entry-at Awaiting 0 31) 0 ∷ tests-to 4 2 0 (entry-at Awaiting 0 32) 42
+    ∷ tests-to 4 2 0 (entry-at Seeking 0 31) 0 ∷ tests-to 4 2 0 (entry-at Seeking 0 32) 42
+    ∷ tests-to 4 2 0 (entry-at FinishVoting 0 31) 0 ∷ tests-to 4 2 0 (entry-at FinishVoting 0 32) 42
+    ∷ tests-to 4 2 3 (entry-at FinishAwaiting 0 31) 0 ∷ tests-to 4 2 3 (entry-at FinishAwaiting 0 32) 42
+    ∷ tests-to 4 2 3 (entry-at Decided 0 31) 0 ∷ tests-to 4 2 3 (entry-at Decided 0 32) 42 ∷ tests-to 4 1 3 (entry-at Decided 0 32) 0
+    ∷ []
+
+-- ---- "Every event and LOOK first test the record": 42 before the number that each would have
+
+-- the cursor of station 2 is n
+abbrev faulty : ℕ → Settlement
+faulty rule = made-up 3 rule 2 (live Decided 5 6 3 1 9 11)
+
+abbrev test-first : List Row
+test-first =
+    gives (faulty 1) (claim 0 7) 42 ∷ gives (faulty 1) (claim 3 7) 42 ∷ gives (faulty 2) (claim 0 7) 42 ∷ gives (faulty 2) (claim 3 7) 42
+    ∷ gives (faulty 1) (deliver 2 0) 42 ∷ gives (faulty 1) (deliver 3 0) 42 ∷ gives (faulty 2) (deliver 2 0) 42 ∷ gives (faulty 2) (deliver 0 3) 42
+    ∷ gives (faulty 1) (step 0) 42 ∷ gives (faulty 1) (step 3) 42 ∷ gives (faulty 2) (step 0) 42 ∷ gives (faulty 2) (step 3) 42
+    ∷ gives (faulty 1) (lose 0) 42 ∷ gives (faulty 1) (lose 3) 42 ∷ gives (faulty 2) (lose 0) 42 ∷ gives (faulty 2) (lose 3) 42
+    ∷ gives (faulty 1) (answer 0 0) 42 ∷ gives (faulty 1) (answer 2 0) 42 ∷ gives (faulty 2) (answer 0 0) 42 ∷ gives (faulty 2) (answer 64 2) 42
+    ∷ gives (fresh 33 1) (claim 0 7) 42 ∷ gives (fresh 33 1) (answer 0 0) 42 ∷ gives (fresh 3 0) (claim 0 7) 42 ∷ gives (fresh 3 0) (answer 9 9) 42
+    ∷ shows (faulty 1) 2 42 false 0 0 ∷ shows (faulty 1) 3 42 false 0 0 ∷ shows (faulty 2) 2 42 false 0 0 ∷ shows (faulty 2) 3 42 false 0 0
+    ∷ shows (fresh 33 2) 0 42 false 0 0 ∷ shows (fresh 33 2) 33 42 false 0 0 ∷ shows (fresh 0 3) 0 42 false 0 0
+    -- refused, the entries stay
+    ∷ leaves (faulty 2) (claim 0 7) 0 (entry-at Idle 0 0) ∷ leaves (faulty 2) (claim 2 7) 2 (live Decided 5 6 3 1 9 11)
+    ∷ []
+
+-- ---- LOOK
+
+abbrev looking : List Row
+looking =
+    -- "No station s: 1"; "A refusal gives undecided, 0, 0."
+    shows (fresh 0 1) 0 1 false 0 0 ∷ shows (fresh 0 2) 0 1 false 0 0 ∷ shows (made-up 4 2 4 (live Decided 5 6 3 7 9 11)) 4 1 false 0 0
+    ∷ shows (fresh 32 1) 32 1 false 0 0 ∷ shows (fresh 32 2) 255 1 false 0 0 ∷ shows (fresh 32 2) 31 0 false 0 0
+    -- "idle and waiting 0; rule 1 k when voting, k + 1 when awaiting or seeking, R when decided"
+    ∷ shows (made-up 32 1 31 (live Idle 5 6 4 3 9 11)) 31 0 false 0 0 ∷ shows (made-up 32 1 31 (live Waiting 5 6 4 3 9 11)) 31 0 false 0 0
+    ∷ shows (made-up 32 1 31 (live Voting 5 6 4 3 9 11)) 31 0 false 0 3 ∷ shows (made-up 32 1 31 (live Awaiting 5 6 4 3 9 11)) 31 0 false 0 4
+    ∷ shows (made-up 32 1 31 (live Seeking 5 6 4 3 9 11)) 31 0 false 0 4 ∷ shows (made-up 32 1 31 (live Decided 5 6 4 3 9 11)) 31 0 true 11 5
+    ∷ shows (made-up 32 1 31 (lost Seeking 5 6 4 3 9 11)) 31 0 false 0 4 ∷ shows (made-up 32 1 31 (lost Decided 5 6 4 3 9 11)) 31 0 true 11 5
+    ∷ shows (made-up 1 1 0 (live Waiting 5 6 0 3 9 11)) 0 0 false 0 0 ∷ shows (made-up 1 1 0 (live Decided 5 6 0 3 9 11)) 0 0 true 11 0
+    ∷ shows (made-up 2 1 0 (live Voting 5 6 1 0 9 11)) 0 0 false 0 0 ∷ shows (made-up 2 1 0 (live Decided 5 6 1 0 9 0)) 0 0 true 0 1
+    -- "rule 2 2k before the bit vote, 2k + 1 after it and before the finish vote, 2k + 2 after"
+    ∷ shows (made-up 32 2 31 (live Idle 5 6 4 3 9 11)) 31 0 false 0 0 ∷ shows (made-up 32 2 31 (live Waiting 5 6 4 3 9 11)) 31 0 false 0 0
+    ∷ shows (made-up 32 2 31 (live Voting 5 6 4 3 9 11)) 31 0 false 0 6 ∷ shows (made-up 32 2 31 (live Awaiting 5 6 4 3 9 11)) 31 0 false 0 7
+    ∷ shows (made-up 32 2 31 (live Seeking 5 6 4 3 9 11)) 31 0 false 0 7 ∷ shows (made-up 32 2 31 (live FinishVoting 5 6 4 3 9 11)) 31 0 false 0 7
+    ∷ shows (made-up 32 2 31 (live FinishAwaiting 5 6 4 3 9 11)) 31 0 false 0 8 ∷ shows (made-up 32 2 31 (live Decided 5 6 4 3 9 11)) 31 0 true 11 8
+    ∷ shows (made-up 32 2 31 (lost FinishVoting 5 6 4 3 9 11)) 31 0 false 0 7 ∷ shows (made-up 32 2 31 (lost Decided 5 6 4 3 9 11)) 31 0 true 11 8
+    ∷ shows (made-up 1 2 0 (live Voting 5 6 0 31 9 11)) 0 0 false 0 62 ∷ shows (made-up 1 2 0 (live Seeking 5 6 0 31 9 11)) 0 0 false 0 63
+    ∷ shows (made-up 1 2 0 (live FinishAwaiting 5 6 0 31 9 11)) 0 0 false 0 64
+    ∷ shows (made-up 1 2 0 (live Decided 5 6 0 31 9 4294967295)) 0 0 true 4294967295 64 ∷ shows (made-up 1 2 0 (live Decided 5 6 0 0 9 0)) 0 0 true 0 2
+    ∷ []
+
+-- ---- whole entries after an event: "what a step does not name stays"
+
+abbrev entries-after : List Row
+entries-after =
+    -- CLAIM, LOSE, DELIVER
+    leaves (made-up 32 1 31 (live Idle 5 6 4 3 9 11)) (claim 31 4294967295) 31 (live Waiting 5 4294967295 4 3 9 11)
+    ∷ leaves (made-up 32 2 31 (live Idle 5 6 4 3 9 11)) (claim 31 4294967295) 31 (live Waiting 5 4294967295 4 3 9 11)
+    ∷ leaves (made-up 1 1 0 (live Idle 5 6 0 3 9 11)) (claim 0 0) 0 (live Waiting 5 0 0 3 9 11)
+    ∷ leaves (made-up 1 2 0 (live Idle 5 6 0 3 9 11)) (claim 0 0) 0 (live Waiting 5 0 0 3 9 11)
+    ∷ leaves (made-up 32 1 31 (live Seeking 5 6 4 3 9 11)) (lose 31) 31 (lost Seeking 5 6 4 3 9 11)
+    ∷ leaves (made-up 32 2 31 (live Decided 5 6 4 3 9 11)) (lose 31) 31 (lost Decided 5 6 4 3 9 11)
+    ∷ leaves (made-up 1 1 0 (live Idle 5 6 0 3 9 11)) (lose 0) 0 (lost Idle 5 6 0 3 9 11)
+    ∷ leaves (beside 32 1 0 (live Seeking 5 6 4 3 9 11) 31 (live Waiting 0 8 0 0 0 0)) (deliver 31 0) 0 (live Seeking 2147483653 6 4 3 9 11)
+    ∷ leaves (beside 32 2 31 (live Idle 4 6 4 3 9 11) 0 (lost Waiting 0 8 0 0 0 0)) (deliver 0 31) 31 (live Idle 5 6 4 3 9 11)
+    ∷ leaves (made-up 1 2 0 (live Waiting 4 6 0 3 9 11)) (deliver 0 0) 0 (live Waiting 5 6 0 3 9 11)
+    -- STEP, waiting
+    ∷ leaves (made-up 32 1 31 (live Waiting 2147483653 6 4 3 9 11)) (step 31) 31 (live Voting 2147483653 6 31 3 9 11)
+    ∷ leaves (made-up 32 2 31 (live Waiting 2147483653 6 4 3 9 11)) (step 31) 31 (live Voting 2147483653 6 31 3 9 11)
+    ∷ leaves (made-up 1 1 0 (live Waiting 5 6 0 3 9 11)) (step 0) 0 (live Decided 5 6 0 3 9 6)
+    ∷ leaves (made-up 1 2 0 (live Waiting 5 6 0 3 9 11)) (step 0) 0 (live Voting 5 6 0 3 9 11)
+    -- STEP, voting: bit 2 of 4 in ballot 2, bit 2 of the claim of 4 in ballot 4
+    ∷ leaves (made-up 32 1 31 (live Voting 5 6 4 2 9 11)) (step 31) 31 (live Awaiting 5 6 4 2 9 11)
+    ∷ leaves-ballot (at-ballot 32 1 31 (live Voting 5 6 4 2 9 11) 2 (marks true false false true)) (step 31) 2 (marks true true false true)
+    ∷ leaves (beside 32 2 31 (live Voting 5 6 4 2 9 11) 4 (live Waiting 0 3 0 0 0 0)) (step 31) 31 (live Awaiting 5 6 4 2 9 11)
+    ∷ leaves-ballot (beside 32 2 31 (live Voting 5 6 4 2 9 11) 4 (live Waiting 0 3 0 0 0 0)) (step 31) 4 (marks true false false false)
+    ∷ leaves-ballot (made-up 1 2 0 (live Voting 5 4294967295 0 31 9 11)) (step 0) 62 (marks false true false false)
+    -- STEP, awaiting: the answer becomes bit 2, or bit 3, of 9
+    ∷ leaves (at-ballot 32 1 31 (live Awaiting 5 6 4 2 9 11) 2 (marks true true true true)) (step 31) 31 (live Seeking 5 6 4 2 13 11)
+    ∷ leaves (at-ballot 32 1 31 (live Awaiting 5 6 4 3 9 11) 3 (marks true true true false)) (step 31) 31 (live Seeking 5 6 4 3 1 11)
+    ∷ leaves (at-ballot 1 2 0 (live Awaiting 5 6 0 2 9 11) 4 (marks false true true true)) (step 0) 0 (live Seeking 5 6 0 2 13 11)
+    ∷ leaves-ballot (at-ballot 1 2 0 (live Awaiting 5 6 0 2 9 11) 4 (marks false true true true)) (step 0) 4 (marks false true true true)
+    -- STEP, seeking: 5 is not held; held, and 9 is 5 in bit 0, 5 in all five bits, or its claim in bits 0 and 1
+    ∷ leaves (made-up 32 1 31 (live Seeking 5 6 4 0 9 11)) (step 31) 31 (live Seeking 5 6 5 0 9 11)
+    ∷ leaves (made-up 32 2 31 (live Seeking 5 6 4 0 9 11)) (step 31) 31 (live Seeking 5 6 5 0 9 11)
+    ∷ leaves (made-up 32 1 31 (live Seeking 32 6 4 0 9 11)) (step 31) 31 (live Voting 32 6 5 1 9 11)
+    ∷ leaves (made-up 32 1 31 (live Seeking 32 6 4 2 9 11)) (step 31) 31 (live Seeking 32 6 5 2 9 11)
+    ∷ leaves (beside 32 1 31 (live Seeking 32 6 4 4 5 11) 5 (live Waiting 0 8 0 0 0 0)) (step 31) 31 (live Decided 32 6 5 4 5 8)
+    ∷ leaves (beside 32 2 31 (live Seeking 32 6 4 1 9 11) 5 (live Waiting 0 13 0 0 0 0)) (step 31) 31 (live FinishVoting 32 6 5 1 9 11)
+    ∷ leaves (beside 32 2 31 (live Seeking 32 6 4 1 9 11) 5 (live Waiting 0 10 0 0 0 0)) (step 31) 31 (live Seeking 32 6 5 1 9 11)
+    ∷ leaves (beside 32 2 31 (live Seeking 1 6 31 1 9 11) 0 (live Waiting 0 13 0 0 0 0)) (step 31) 31 (live FinishVoting 1 6 0 1 9 11)
+    ∷ leaves (made-up 1 2 0 (live Seeking 5 6 0 1 10 11)) (step 0) 0 (live FinishVoting 5 6 0 1 10 11)
+    -- STEP, the finish ballot 2k + 1
+    ∷ leaves (made-up 32 2 31 (live FinishVoting 5 6 4 3 9 11)) (step 31) 31 (live FinishAwaiting 5 6 4 3 9 11)
+    ∷ leaves-ballot (beside 32 2 31 (live FinishVoting 5 6 4 3 9 11) 4 (live Waiting 0 9 0 0 0 0)) (step 31) 7 (marks false true false false)
+    ∷ leaves-ballot (beside 32 2 31 (live FinishVoting 5 6 4 3 9 11) 4 (live Waiting 0 25 0 0 0 0)) (step 31) 7 (marks true false false false)
+    ∷ leaves (at-ballot 32 2 31 (live FinishAwaiting 5 6 4 3 9 11) 7 (marks true true true true)) (step 31) 31 (live Decided 5 6 4 3 9 9)
+    ∷ leaves (at-ballot 32 2 31 (live FinishAwaiting 5 6 4 3 9 11) 7 (marks true true true false)) (step 31) 31 (live Voting 5 6 4 4 9 11)
+    ∷ leaves (at-ballot 1 2 0 (live FinishAwaiting 5 6 0 31 9 11) 63 (marks true true true true)) (step 0) 0 (live Decided 5 6 0 31 9 9)
+    -- "Taking answer 0 from ballot 63"
+    ∷ gives (at-ballot 1 2 0 (live FinishAwaiting 5 6 0 31 9 11) 63 (marks true true false false)) (step 0) 8
+    ∷ gives (at-ballot 1 2 0 (live FinishAwaiting 5 6 0 31 9 11) 63 (marks true true true false)) (step 0) 42
+    ∷ gives (at-ballot 1 2 0 (live FinishAwaiting 5 6 0 31 9 11) 63 (marks true true true true)) (step 0) 0
+    ∷ leaves (at-ballot 1 2 0 (live FinishAwaiting 5 6 0 31 9 11) 63 (marks true true true false)) (step 0) 0 (live FinishAwaiting 5 6 0 31 9 11)
+    -- ANSWER
+    ∷ leaves-ballot (at-ballot 32 1 0 (live Awaiting 5 6 4 3 9 11) 4 (marks true false false true)) (answer 4 0) 4 (marks true false true false)
+    ∷ leaves (at-ballot 32 1 0 (live Awaiting 5 6 4 3 9 11) 4 (marks true false false true)) (answer 4 0) 0 (live Awaiting 5 6 4 3 9 11)
+    ∷ leaves-ballot (at-ballot 32 2 0 (live Awaiting 5 6 4 3 9 11) 63 (marks true true false false)) (answer 63 1) 63 (marks true true true true)
+    ∷ leaves-ballot (at-ballot 1 2 0 (lost Awaiting 5 6 0 3 9 11) 0 (marks false true false false)) (answer 0 1) 0 (marks false true true true)
+    -- "A record without stations has no ballots under either rule"; a lone station by station has none
+    ∷ gives (fresh 0 1) (answer 0 0) 9 ∷ gives (fresh 0 2) (answer 0 0) 9 ∷ gives (fresh 1 1) (answer 0 0) 9 ∷ gives (fresh 1 2) (answer 63 0) 12
+    ∷ []
 
 abbrev pub edges : List Row
-edges =
-    -- more than 32 stations; a rule other than 1 or 2
-    event-gives (fresh 33 1) (lose 0) 42
-    ∷ event-gives (fresh 32 1) (lose 0) 0
-    ∷ event-gives (fresh 3 0) (lose 0) 42
-    ∷ event-gives (fresh 3 3) (lose 0) 42
-    -- a station below n whose cursor is n or more
-    ∷ event-gives (made-up 3 1 0 (entry-at Waiting 0 3 0)) (lose 0) 42
-    ∷ event-gives (made-up 3 1 0 (entry-at Waiting 0 2 0)) (lose 0) 0
-    ∷ event-gives (made-up 3 1 2 (entry-at Idle 0 3 0)) (lose 0) 42
-    ∷ event-gives (made-up 3 1 3 (entry-at Waiting 0 200 0)) (lose 0) 0
-    -- a voting, awaiting or seeking station whose round is R or more under rule 1
-    ∷ event-gives (made-up 4 1 0 (entry-at Voting 0 0 2)) (lose 0) 42
-    ∷ event-gives (made-up 4 1 0 (entry-at Voting 0 0 1)) (lose 0) 0
-    ∷ event-gives (made-up 4 1 0 (entry-at Awaiting 0 0 2)) (lose 0) 42
-    ∷ event-gives (made-up 4 1 0 (entry-at Awaiting 0 0 1)) (lose 0) 0
-    ∷ event-gives (made-up 4 1 0 (entry-at Seeking 0 0 2)) (lose 0) 42
-    ∷ event-gives (made-up 4 1 0 (entry-at Seeking 0 0 1)) (lose 0) 0
-    ∷ event-gives (made-up 1 1 0 (entry-at Seeking 0 0 0)) (lose 0) 42
-    ∷ event-gives (made-up 4 1 4 (entry-at Voting 0 0 9)) (lose 0) 0
-    ∷ event-gives (made-up 4 1 0 (entry-at Decided 0 0 255)) (lose 0) 0
-    ∷ event-gives (made-up 4 1 0 (entry-at Waiting 0 0 255)) (lose 0) 0
-    -- a station voting or awaiting on a finish ballot under rule 1
-    ∷ event-gives (made-up 4 1 0 (entry-at FinishVoting 0 0 0)) (lose 0) 42
-    ∷ event-gives (made-up 4 1 0 (entry-at FinishAwaiting 0 0 0)) (lose 0) 42
-    ∷ event-gives (made-up 4 2 0 (entry-at FinishVoting 0 0 0)) (lose 0) 0
-    -- a station past waiting whose round is 32 or more under rule 2
-    ∷ event-gives (made-up 4 2 0 (entry-at Voting 0 0 32)) (lose 0) 42
-    ∷ event-gives (made-up 4 2 0 (entry-at Voting 0 0 31)) (lose 0) 0
-    ∷ event-gives (made-up 4 2 3 (entry-at FinishAwaiting 0 0 32)) (lose 0) 42
-    ∷ event-gives (made-up 4 2 0 (entry-at Decided 0 0 32)) (lose 0) 42
-    ∷ event-gives (made-up 4 2 0 (entry-at Decided 0 0 31)) (lose 0) 0
-    ∷ event-gives (made-up 4 2 0 (entry-at Waiting 0 0 32)) (lose 0) 0
-    -- taking answer 0 from ballot 63
-    ∷ event-gives (at-last false false) (step 0) 8
-    ∷ event-gives (at-last true false) (step 0) 42
-    ∷ event-gives (at-last true true) (step 0) 0
-    -- a record without stations has no ballots under either rule
-    ∷ event-gives (fresh 0 2) (answer 0 0) 9
-    ∷ look-gives (fresh 0 2) 0 1
-    ∷ look-gives (fresh 33 2) 0 42
-    ∷ look-gives (fresh 32 2) 31 0
-    ∷ look-gives (fresh 32 2) 32 1
-    -- what a step does not name stays: the first STEP keeps round 3, and so 2k = 6 votes are shown
-    ∷ votes-after (made-up 1 2 0 (entry-at Waiting 1 0 3)) (step 0) 0 6
-    ∷ []
+edges = opening ++ record-test ++ test-first ++ looking ++ entries-after
