@@ -235,6 +235,13 @@ entries-after =
     ∷ leaves (at-ballot 32 1 0 (live Awaiting 5 6 4 3 9 11) 4 (marks true false false true)) (answer 4 0) 0 (live Awaiting 5 6 4 3 9 11)
     ∷ leaves-ballot (at-ballot 32 2 0 (live Awaiting 5 6 4 3 9 11) 63 (marks true true false false)) (answer 63 1) 63 (marks true true true true)
     ∷ leaves-ballot (at-ballot 1 2 0 (lost Awaiting 5 6 0 3 9 11) 0 (marks false true false false)) (answer 0 1) 0 (marks false true true true)
+    -- the other entries: a station beside, one from n on, and the sender; ballot 0, and a ballot that is not voted in
+    ∷ leaves (made-up 3 2 1 (live Waiting 5 6 2 3 9 11)) (lose 0) 1 (live Waiting 5 6 2 3 9 11)
+    ∷ leaves (made-up 2 1 31 (live Idle 5 6 4 3 9 11)) (claim 0 7) 31 (live Idle 5 6 4 3 9 11)
+    ∷ leaves (beside 32 1 0 (live Seeking 5 6 4 3 9 11) 31 (live Waiting 5 8 4 3 9 11)) (deliver 31 0) 31 (live Waiting 5 8 4 3 9 11)
+    ∷ leaves-ballot (at-ballot 32 1 31 (live Voting 5 6 4 2 9 11) 0 (marks true false true false)) (step 31) 0 (marks true false true false)
+    ∷ leaves-ballot (at-ballot 32 2 31 (live Seeking 5 6 4 2 9 11) 4 (marks true false true false)) (step 31) 4 (marks true false true false)
+    ∷ leaves-ballot (at-ballot 1 2 0 (live Idle 5 6 0 2 9 11) 0 (marks true false true false)) (claim 0 7) 0 (marks true false true false)
     -- "A record without stations has no ballots under either rule"; a lone station by station has none
     ∷ gives (fresh 0 1) (answer 0 0) 9 ∷ gives (fresh 0 2) (answer 0 0) 9 ∷ gives (fresh 1 1) (answer 0 0) 9 ∷ gives (fresh 1 2) (answer 63 0) 12
     ∷ []
