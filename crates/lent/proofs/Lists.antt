@@ -1,14 +1,14 @@
 -- Lists of events on one lent settlement: each entry's contract gives the outcome of the event's meaning, so by recursion on the list what is left is
 -- `record-after`, of which the demands are proved. Assumes nothing.
 use Prim.Native.Nat.{ℕ}
-use mathlib.Core.Path.{_≡_, refl, sym, _∙_, ap}
+use mathlib.Core.Path.{_≡_, refl, sym, _∙_, ap, subst}
 use Rattle.consensus.specs.Events.{Event, History, start, _▷_, Opening, Openable}
-use Rattle.consensus.specs.Terms.{Claims-fit}
+use Rattle.consensus.specs.Terms.{Beginning, Claims-fit}
 use Rattle.settlement.specs.declared.record.Settlement.{Settlement}
 use Rattle.settlement.specs.declared.record.Outcome.{Outcome}
 use Rattle.settlement.specs.Events.{opened, effect, played}
-use Rattle.settlement.specs.Look.{looked}
 use Rattle.settlement.specs.Link.{rule-number, record-after}
+use Rattle.settlement.specs.Demands.{Answers-told, Demand3-of-records}
 use Rattle.settlement.proofs.Demand1.{demand1}
 use Rattle.settlement.proofs.Link.Demands.{demands}
 use Rattle.lent.specs.Lent.{leaving}
@@ -38,13 +38,18 @@ unfolding record-after
 stands o start = (opened (o .count) (rule-number (o .rule)) .number, refl)
 stands o (h ▷ e) = (record-after o h, played (record-after o h) e .number, stands o h, refl)
 
-demand3 : (o : Opening) → Openable o → (h : History) → Claims-fit h → (r : Settlement) → Stands o h r → Demand3-lent o h r
-demand3 o a h f r s = record {
-  demand = demands .demand3 o a h f;
-  numbers = λ e k r′ l.
-      same-number k r′ (played r e) l ∙ ap (λ (z : Settlement). played z e .number) (left o h r s) ∙ demands .demand3 o a h f .told .numbers e;
-  looks = λ i. ap (λ (z : Settlement). looked z i) (left o h r s);
+demand3 : (o : Opening) → Openable o → (h : History) → Claims-fit h → Demand3-lent o h
+demand3 o a h f = record {
+  demand = d;
+  told = told;
+  numbers = λ g b r s e k r′ l. same-number k r′ (played r e) l ∙ told g b r s .numbers e;
 }
+  where
+    d : Demand3-of-records o h
+    d = demands .demand3 o a h f
+
+    told : (g : History) → Beginning g h → (r : Settlement) → Stands o g r → Answers-told o g r
+    told g b r s = subst (Answers-told o g) (sym (left o g r s)) (d .told g b)
 
 pub lent-lists : Lent-lists
 lent-lists = record { refused = refused; accepted = accepted; left = left; stands = stands; demand3 = demand3 }

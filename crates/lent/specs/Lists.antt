@@ -4,12 +4,11 @@ use Prim.Native.Nat.{ℕ}
 use mathlib.Core.Path.{_≡_}
 use Rattle.consensus.specs.Events.{Event, History, start, _▷_, Opening, Openable}
 use Rattle.consensus.specs.Rules.{number, after}
-use Rattle.consensus.specs.Terms.{Claims-fit}
+use Rattle.consensus.specs.Terms.{Beginning, Claims-fit}
 use Rattle.settlement.specs.declared.record.Settlement.{Settlement}
 use Rattle.settlement.specs.Events.{opened, effect, played}
-use Rattle.settlement.specs.Look.{looked}
 use Rattle.settlement.specs.Link.{rule-number, record-after}
-use Rattle.settlement.specs.Demands.{Demand3-of-records}
+use Rattle.settlement.specs.Demands.{Answers-told, Demand3-of-records}
 use Rattle.lent.specs.Lent.{leaving}
 
 -- the contracts of the entries: OPEN n, rule answers k and leaves r; the event e on r answers k and leaves r′
@@ -24,12 +23,13 @@ abbrev pub Stands : Opening → History → Settlement → Type 0
 Stands o start r = (k : ℕ) × Opens (o .count) (rule-number (o .rule)) k r
 Stands o (h ▷ e) r = (r₀ : Settlement) × (k : ℕ) × Stands o h r₀ × Leaves r₀ e k r
 
--- Demand 3 of a settlement r that stands there after the list h: its words hold, and the next event's number and LOOK's answers are those that they
--- speak of
-pub record Demand3-lent (o : Opening) (h : History) (r : Settlement) : Type 0 where
+-- Demand 3 of one settlement that is lent to OPEN and then to the entry of each event of the list h: its words hold, and after every beginning g of
+-- the list, the settlement r that stands there answers as the play does; so does the entry of any event that r is lent to next
+pub record Demand3-lent (o : Opening) (h : History) : Type 0 where
   pub demand : Demand3-of-records o h
-  pub numbers : (e : Event) (k : ℕ) (r′ : Settlement) → Leaves r e k r′ → k ≡ number o (after o h) e
-  pub looks : (s : ℕ) → looked r s ≡ looked (record-after o h) s
+  pub told : (g : History) → Beginning g h → (r : Settlement) → Stands o g r → Answers-told o g r
+  pub numbers : (g : History) → Beginning g h → (r : Settlement) → Stands o g r
+      → (e : Event) (k : ℕ) (r′ : Settlement) → Leaves r e k r′ → k ≡ number o (after o g) e
 
 pub record Lent-lists : Type 0 where
   -- refusal leaves the settlement equal, on every record; acceptance advances it
@@ -38,4 +38,4 @@ pub record Lent-lists : Type 0 where
   -- a list leaves what the meanings by value leave, and some settlement stands there after every list
   pub left : (o : Opening) (h : History) (r : Settlement) → Stands o h r → r ≡ record-after o h
   pub stands : (o : Opening) (h : History) → Stands o h (record-after o h)
-  pub demand3 : (o : Opening) → Openable o → (h : History) → Claims-fit h → (r : Settlement) → Stands o h r → Demand3-lent o h r
+  pub demand3 : (o : Opening) → Openable o → (h : History) → Claims-fit h → Demand3-lent o h

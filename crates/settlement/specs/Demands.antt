@@ -21,18 +21,18 @@ use Rattle.settlement.specs.Link.{rule-number, record-after, Shows-play}
 abbrev pub Shows-figure : (o : Opening) → Settlement → Figure-state o → Type 0
 Shows-figure o r x = (st : State) × Shows-play o r st × Shows o st x
 
-module _ (o : Opening) (h : History) where
-  -- "each event's number, and LOOK's whole answer for each station after every beginning of the list, are those of this play"
-  pub record Answers-told : Type 0 where
-    pub numbers : (e : Event) → played (record-after o h) e .number ≡ number o (after o h) e
-    pub look-decided : (s v : ℕ) → s < o .count → Decided o s v h
-        → looked (record-after o h) s ≡ record { number = 0; decided = true; claim = v; votes = length (voted-in o s h) }
-    pub look-undecided : (s : ℕ) → s < o .count → ((v : ℕ) → Decided o s v h → ⊥)
-        → looked (record-after o h) s ≡ record { number = 0; decided = false; claim = 0; votes = length (voted-in o s h) }
-    pub look-nobody : (s : ℕ) → o .count ≤ s → looked (record-after o h) s ≡ turned-away 1
-    -- "LOOK says so exactly then"
-    pub look-exactly : (s : ℕ) → (looked (record-after o h) s .decided ≡ true) ↔ ((v : ℕ) × Decided o s v h)
+-- what the record r answers after the list g: an event's number and LOOK's whole answer for each station "are those of this play"
+pub record Answers-told (o : Opening) (g : History) (r : Settlement) : Type 0 where
+  pub numbers : (e : Event) → played r e .number ≡ number o (after o g) e
+  pub look-decided : (s v : ℕ) → s < o .count → Decided o s v g
+      → looked r s ≡ record { number = 0; decided = true; claim = v; votes = length (voted-in o s g) }
+  pub look-undecided : (s : ℕ) → s < o .count → ((v : ℕ) → Decided o s v g → ⊥)
+      → looked r s ≡ record { number = 0; decided = false; claim = 0; votes = length (voted-in o s g) }
+  pub look-nobody : (s : ℕ) → o .count ≤ s → looked r s ≡ turned-away 1
+  -- "LOOK says so exactly then"
+  pub look-exactly : (s : ℕ) → (looked r s .decided ≡ true) ↔ ((v : ℕ) × Decided o s v g)
 
+module _ (o : Opening) (h : History) where
   -- "No record reached from OPEN meets 42."
   pub record Sound : Type 0 where
     pub no-fault : fault (record-after o h) ≡ false
@@ -49,7 +49,9 @@ module _ (o : Opening) (h : History) where
 
   -- Demand 3: the words are the play's, and the operations' numbers and answers are the play's too.
   pub record Demand3-of-records : Type 0 where
-    pub told : Answers-told
+    -- "Part of the claim is that each event's number, and LOOK's whole answer for each station after every beginning of the list, are those of this
+    -- play." The list is itself one of its beginnings
+    pub told : (g : History) → Beginning g h → Answers-told o g (record-after o g)
     pub demand : Demand3-of o h
     -- "A P that has claimed, is not lost and is undecided is never refused one"
     pub never-refused : (g : History) → Beginning g h → (p v : ℕ) → Put-in o p v g → (Lost o p g → ⊥) → ((w : ℕ) → Decided o p w g → ⊥)

@@ -18,7 +18,7 @@ use Rattle.consensus.specs.State as play
 use Rattle.consensus.specs.Rules as rules
 use Rattle.basics.specs.Tests.{refuse, first-met}
 use Rattle.basics.specs.Below.{any-below}
-use Rattle.consensus.specs.Terms.{decision, voted-in, Decided, Fitting, Claims-fit}
+use Rattle.consensus.specs.Terms.{Beginning, decision, voted-in, Decided, Fitting, Claims-fit}
 use Rattle.basics.proofs.Bools.{by-bool, no-clash, not-false→true, or-false}
 use Rattle.basics.proofs.Refusals.{refused-not, met}
 use Rattle.consensus.proofs.Invariant as invariant
@@ -233,7 +233,7 @@ module _ (o : Opening) (a : Openable o) (h : History) (f : Claims-fit h) where
             shown-decided o s (entry r s .decision) h (sym (entry-decision s b) ∙ ap (λ (y : Bool). cond y (some (entry r s .decision)) none) x),
           )
 
-  told : Answers-told o h
+  told : Answers-told o h r
   told = record {
     numbers = numbers;
     look-decided = look-decided;
@@ -321,6 +321,11 @@ blank-shows s =
 
 -- ---- all together
 
+-- a list is one of its beginnings
+pub whole : (h : History) → Beginning h h
+whole start = refl
+whole (h ▷ e) = inl refl
+
 pub demands : Demands
 demands = record {
   opens = λ o a. ap (λ x. x .number) (opened-fresh o a);
@@ -330,7 +335,7 @@ demands = record {
   sound = sound;
   demand2 = demand2;
   demand3 = λ o a h f. record {
-    told = told o a h f;
+    told = λ g b. told o a g (fit-beginning g h b f);
     demand = play-proofs.demand3 .holds o a h f;
     never-refused = λ g b p v put live undecided x.
         numbers o a g (fit-beginning g h b f) (step p) ∙ play-proofs.demand3 .holds o a h f .never-refused g b p v put live undecided x;
