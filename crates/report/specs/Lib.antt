@@ -4,8 +4,10 @@
 --     Text      the lines
 --     Report    what is printed for a log
 --     Written   a text printed into a lent buffer
+--     Agreed    what two lines that say `decided` show
 pub mod Quoted
 pub mod Decimal
 pub mod Text
 pub mod Report
 pub mod Written
+pub mod Agreed
