@@ -177,7 +177,7 @@ module _ (log : List ℕ) (x y : List ℕ) where
   abbrev Agrees : Type 0
   Agrees = (v : ℕ) × (k : ℕ) × Says v k x × Says v k y × Put-in-by-log log v
 
-  module _ (o : consensus-events.Opening) (h : History) (P : Played log limit o h) where
+  module _ (o : consensus-events.Opening) (h : History) (P : Played log limit (ran log limit) o h) where
     abbrev r : Settlement
     r = record-after o h
 
@@ -234,7 +234,7 @@ unfolding report
 agree log bytes p q x y = go (ltb limit (length log))
   where
     by-demand : Listed (says-decided p x) (lines (run-text log (ran log limit .settlement))) → Listed (says-decided q y) (lines (run-text log (ran log limit .settlement)))
-        → Unopened log limit ⊎ ((o : consensus-events.Opening) × (h : History) × Played log limit o h) → Agrees log x y
+        → Unopened log limit (ran log limit) ⊎ ((o : consensus-events.Opening) × (h : History) × Played log limit (ran log limit) o h) → Agrees log x y
     by-demand a b (inl u) =
         let d = in-text blank _ _ _ p x (subst (λ (r : Settlement). Listed (says-decided p x) (lines (run-text log r))) (u .settlement) a) in
         let l = d .known in
