@@ -16,6 +16,7 @@ use Rattle.consensus.specs.Events.{History, claim}
 use Rattle.consensus.specs.Events as consensus-events
 use Rattle.consensus.specs.Terms.{Put-in}
 use Rattle.consensus.specs.Told.{Listed}
+use Rattle.consensus.proofs.Beginnings.{itself}
 use Rattle.entry.specs.declared.entry.Stage.{Stage}
 use Rattle.entry.specs.declared.entry.Stage.the-variants.{Idle, Waiting, Voting, Awaiting, Seeking, FinishVoting, FinishAwaiting, Decided}
 use Rattle.entry.specs.Entries.{ballots}
@@ -30,7 +31,6 @@ use Rattle.settlement.specs.Fault.{fault}
 use Rattle.settlement.specs.Record.{entry}
 use Rattle.settlement.specs.Look.{standing, looked}
 use Rattle.settlement.specs.Link.{rule-number, record-after}
-use Rattle.settlement.proofs.Link.Demands.{whole}
 use Rattle.field.specs.declared.field.Field.the-variants.{Event}
 use Rattle.field.specs.declared.read.Reading.the-variants.{Found}
 use Rattle.field.specs.Read.{found}
@@ -193,7 +193,7 @@ module _ (log : List ℕ) (x y : List ℕ) where
 
     put-in : {z : List ℕ} (d : Station-decided r z) → Put-in-by-log log (looked r (d .station) .claim)
     put-in d =
-        let answers = P .demand3 .told h (whole h) in
+        let answers = P .demand3 .told h (itself h) in
         let t = answers .look-exactly (d .station) .0 (decided-there d) in
         let inside = subst (λ (n : ℕ). d .station < n) (P .demand2 .shown .1 .count) (d .known) in
         let same : looked r (d .station) .claim ≡ t .0 = ap (λ (w : Standing). w .claim) (answers .look-decided (d .station) (t .0) inside (t .1)) in

@@ -18,7 +18,7 @@ use Rattle.consensus.specs.State as play
 use Rattle.consensus.specs.Rules as rules
 use Rattle.basics.specs.Tests.{refuse, first-met}
 use Rattle.basics.specs.Below.{any-below}
-use Rattle.consensus.specs.Terms.{Beginning, decision, voted-in, Decided, Fitting, Claims-fit}
+use Rattle.consensus.specs.Terms.{decision, voted-in, Decided, Fitting, Claims-fit}
 use Rattle.basics.proofs.Bools.{by-bool, no-clash, not-false→true, or-false}
 use Rattle.basics.proofs.Refusals.{refused-not, met}
 use Rattle.consensus.proofs.Invariant as invariant
@@ -320,11 +320,6 @@ blank-shows s =
     ap (λ (k : ℕ). cond (eqb k 0) (standing 0 1 (entry blank s)) (turned-away k)) (met (no-station 0 s) 1 _ (nobody s))
 
 -- ---- all together
-
--- a list is one of its beginnings
-pub whole : (h : History) → Beginning h h
-whole start = refl
-whole (h ▷ e) = inl refl
 
 pub demands : Demands
 demands = record {
