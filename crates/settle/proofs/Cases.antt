@@ -16,7 +16,6 @@ use Rattle.bits.specs.Examples.{every}
 use Rattle.field.specs.Table.{row-with}
 use Rattle.field.specs.Field.{length-said, claim-said, field-said}
 use Rattle.field.specs.Read.{found-in, found-by, found as found-field}
-use Rattle.put.specs.Bytes.{bytes}
 use Rattle.log.specs.Run.{by-outcome, next-in, by-next, turn, onwards, by-open, by-first, ran}
 use Rattle.report.specs.Decimal.{digits, decimal}
 use Rattle.report.specs.Text.{first-line, decision-shown, presence, shown-line, station-line, station-lines, text}
@@ -24,5 +23,5 @@ use Rattle.report.specs.Report.{report}
 use Rattle.settle.specs.Cases.{right, starred}
 
 pub starred-right : every right starred ≡ true
-unfolding bit binaryDigits digitsIn withBit lowAgree wordWithBit member insert ceilLog2 leastFrom any-below station-fault fault first-met number started voted bit-taken finish-taken found sought stepped own-after ballot-after outcome opened effect played votes looked record-after row-with length-said claim-said field-said bytes found-in found-by found-field by-outcome next-in by-next turn onwards by-open by-first ran digits decimal first-line decision-shown presence shown-line station-line station-lines text report
+unfolding bit binaryDigits digitsIn withBit lowAgree wordWithBit member insert ceilLog2 leastFrom any-below station-fault fault first-met number started voted bit-taken finish-taken found sought stepped own-after ballot-after outcome opened effect played votes looked record-after row-with length-said claim-said field-said found-in found-by found-field by-outcome next-in by-next turn onwards by-open by-first ran digits decimal first-line decision-shown presence shown-line station-line station-lines text report
 starred-right = refl
