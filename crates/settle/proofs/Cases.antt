@@ -1,6 +1,5 @@
 -- The starred cases, computed. Assumes nothing.
-use mathlib.Core.Path.{_≡_, refl}
-use mathlib.Core.Bool.{true}
+use mathlib.Core.Path.{refl}
 use Rattle.bits.specs.Digits.{bit, binaryDigits, digitsIn}
 use Rattle.bits.specs.Words.{withBit, lowAgree, wordWithBit, member, insert}
 use Rattle.bits.specs.Log.{ceilLog2, leastFrom}
@@ -12,7 +11,6 @@ use Rattle.event.specs.Change.{own-after, ballot-after}
 use Rattle.event.specs.Step.{started, voted, bit-taken, finish-taken, found, sought, stepped}
 use Rattle.settlement.specs.Look.{votes, looked}
 use Rattle.settlement.specs.Link.{record-after}
-use Rattle.bits.specs.Examples.{every}
 use Rattle.field.specs.Table.{row-with}
 use Rattle.field.specs.Field.{length-said, claim-said, field-said}
 use Rattle.field.specs.Read.{found-in, found-by, found as found-field}
@@ -20,8 +18,8 @@ use Rattle.log.specs.Run.{by-outcome, next-in, by-next, turn, onwards, by-open,
 use Rattle.report.specs.Decimal.{digits, decimal}
 use Rattle.report.specs.Text.{first-line, decision-shown, presence, shown-line, station-line, station-lines, text}
 use Rattle.report.specs.Report.{report}
-use Rattle.settle.specs.Cases.{right, starred}
+use Rattle.settle.specs.Cases.{Starred-right}
 
-pub starred-right : every right starred ≡ true
+pub starred-right : Starred-right
 unfolding bit binaryDigits digitsIn withBit lowAgree wordWithBit member insert ceilLog2 leastFrom any-below station-fault fault first-met number started voted bit-taken finish-taken found sought stepped own-after ballot-after outcome opened effect played votes looked record-after row-with length-said claim-said field-said found-in found-by found-field by-outcome next-in by-next turn onwards by-open by-first ran digits decimal first-line decision-shown presence shown-line station-line station-lines text report
 starred-right = refl

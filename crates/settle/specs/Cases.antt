@@ -5,9 +5,11 @@ use Prim.Native.Nat.{ℕ, _+_, _*_, _-_}
 use Prim.Native.Char.{code}
 use Prim.Native.String.{String}
 use Prim.Native.String as text
+use mathlib.Core.Path.{_≡_}
 use mathlib.Core.Bool.{Bool, true, false, cond, _&&_, Bool·beq}
 use mathlib.Core.List.{List, [], _∷_, _++_}
 use lib.Dec.{eqb, ltb}
+use Rattle.bits.specs.Examples.{every}
 use Rattle.consensus.specs.Events.{Event, claim, deliver, step, answer, History, start, _▷_, Rule, byStation, byClaim, Opening}
 use Rattle.settlement.specs.declared.record.Standing.{Standing}
 use Rattle.settlement.specs.Events.{opened, played}
@@ -96,6 +98,15 @@ each-stage =
     hex "0100020501 1000050100000007 1000050200000008 1100020202 12000102 1000050400000009 1100020404 12000104 12000104 1400020000"
     ++ hex "12000104 3000024869 100005030000000a 1100020303 12000103 12000103 13000103"
 
+-- by claim: opening 8, 2; CLAIM s 1 for s = 1..7; DELIVER s s for s = 2..7; LOSE 1; STEP 2..7; STEP 3..7; ANSWER 0 1; STEP 4..7;
+-- DELIVER 6 5, 7 6, 1 7; STEP 5, 6, 7, 7, 6, 7; ANSWER 1 1; STEP 7
+abbrev each-stage-by-claim : List ℕ
+each-stage-by-claim =
+    hex "0100020802 1000050100000001 1000050200000001 1000050300000001 1000050400000001 1000050500000001 1000050600000001 1000050700000001"
+    ++ hex "1100020202 1100020303 1100020404 1100020505 1100020606 1100020707 13000101 12000102 12000103 12000104 12000105 12000106 12000107"
+    ++ hex "12000103 12000104 12000105 12000106 12000107 1400020001 12000104 12000105 12000106 12000107 1100020605 1100020706 1100020107"
+    ++ hex "12000105 12000106 12000107 12000107 12000106 12000107 1400020101 12000107"
+
 abbrev pub starred : List Case
 starred =
     -- A: one station by station decides its claim with its first step
@@ -148,6 +159,8 @@ starred =
     -- each stage in words, and a lost station
     ∷ prints each-stage
     "stations 5 rule 1 ballots 3 events 15 taken 90 status 0\n0 idle - votes 0 live\n1 waiting - votes 0 live\n2 voting - votes 0 live\n3 awaiting - votes 1 lost\n4 seeking - votes 1 live\n"
+    ∷ prints each-stage-by-claim
+    "stations 8 rule 2 ballots 64 events 41 taken 208 status 0\n0 idle - votes 0 live\n1 waiting - votes 0 lost\n2 voting - votes 0 live\n3 awaiting - votes 1 live\n4 seeking - votes 1 live\n5 voting - votes 1 live\n6 awaiting - votes 2 live\n7 decided 1 votes 2 live\n"
     -- a log that does not open
     ∷ prints (hex "0100022103")
     "stations 0 rule 1 ballots 0 events 0 taken 0 status 40\n"
@@ -183,6 +196,7 @@ starred =
     ∷ run-gives (hex "0100020201 1100020002") 65536 0 5 1
     ∷ run-gives (hex "0100020201 12000102") 65536 0 5 1
     ∷ run-gives (hex "0100020201 13000102") 65536 0 5 1
+    ∷ run-gives (hex "0100020201 120001c8") 65536 0 5 1
     ∷ run-gives (hex "0100020201 13000100 1000050000000007") 65536 1 9 2
     ∷ run-gives (hex "0100020201 1000050000000007 1000050000000007") 65536 1 13 3
     ∷ run-gives (hex "0100020201 1100020001") 65536 0 5 4
@@ -195,3 +209,6 @@ starred =
     ∷ run-gives (hex "0100020202 1000050000000004 1100020000 12000100 12000100 1400020000 1400020000") 65536 5 31 11
     ∷ run-gives (hex "0100020201 1400020000") 65536 0 5 12
     ∷ []
+
+abbrev pub Starred-right : Type 0
+Starred-right = every right starred ≡ true
