@@ -161,7 +161,9 @@ starred =
     "stations 5 rule 1 ballots 3 events 15 taken 90 status 0\n0 idle - votes 0 live\n1 waiting - votes 0 live\n2 voting - votes 0 live\n3 awaiting - votes 1 lost\n4 seeking - votes 1 live\n"
     ∷ prints each-stage-by-claim
     "stations 8 rule 2 ballots 64 events 41 taken 208 status 0\n0 idle - votes 0 live\n1 waiting - votes 0 lost\n2 voting - votes 0 live\n3 awaiting - votes 1 live\n4 seeking - votes 1 live\n5 voting - votes 1 live\n6 awaiting - votes 2 live\n7 decided 1 votes 2 live\n"
-    -- a log that does not open
+    -- a log that stops in the middle, and one that does not open
+    ∷ prints (hex "0100020201 1000050000000007 12000100 13000100")
+    "stations 2 rule 1 ballots 1 events 1 taken 13 status 8\n0 waiting - votes 0 live\n1 idle - votes 0 live\n"
     ∷ prints (hex "0100022103")
     "stations 0 rule 1 ballots 0 events 0 taken 0 status 40\n"
     -- claims have their high byte first
