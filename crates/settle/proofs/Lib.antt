@@ -1,5 +1,5 @@
 -- Laws that belong to no one function.
---     Within    what `report` answers lies within the buffer
+--     Fits      a text stands whole in a buffer of 24,576 bytes
 --     Cases     the starred cases, computed
-pub mod Within
+pub mod Fits
 pub mod Cases

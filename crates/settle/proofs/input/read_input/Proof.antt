@@ -1,0 +1,100 @@
+-- `settle::input::read_input`: what was read lies within the buffer; each turn leaves less of it to fill. Assumes nothing.
+use Prim.Native.Nat.{ℕ, zero, suc, _+_, _-_, _≤_, _<_}
+use mathlib.Core.Path.{_≡_, refl, subst, sym, _∙_}
+use mathlib.Core.Bool.{true, false}
+use mathlib.Core.List.{List}
+use native.Mathlib.Omega.{arith}
+use lib.Dec.{T}
+use lib.IntN.{ℤ, pos, negsuc, natAbs}
+use lib.ListN.{length, take, drop, length-drop}
+use lib.Seq.{length-take-le}
+use lib.Signed.{mag, leZ, nonNeg}
+use mir.Syntax.{w64}
+use mir.Val.{toZ, ofZ}
+use mir.Facts.{toZ-ofZ}
+use borrow.Author.Tests.{leb-false}
+use Rattle.libc.specs.Io.{Moved}
+use Rattle.io.proofs.Counting.{counts}
+use borrow.Author.Needs.{needs}
+use Rattle.settle.proofs.input.read_input.Statement.{statement}
+use Rattle.settle.proofs.input.read_input.Tie as tie
+
+abbrev Inv-loop : tie.InvT-loop
+Inv-loop fd buffer₀ length₀ buffer at = (at ≤ length buffer) × (length buffer ≡ length buffer₀)
+
+abbrev μ-loop : tie.MeasureT-loop
+μ-loop fd buffer₀ length₀ buffer at = length buffer - at
+
+-- an answer above 0 counts bytes of the part that was lent, which begins at a
+came : (n : ℕ) (z : ℤ) → Moved n z → leZ z (pos 0) ≡ false → T (nonNeg z) × (0 < natAbs z) × (natAbs z ≤ n)
+came n (pos k) m e = (tt, leb-false k 0 e, m)
+came n (negsuc k) m e = absurd (subst T e tt)
+
+rest : (a : ℕ) (l : List ℕ) → a ≤ length l → length (take (length l - a) (drop a l)) ≡ length l - a
+rest a l h = length-take-le (length l - a) (drop a l) (rw (length-drop a l) (omega arith))
+
+-- the same as the code sees the answer z
+abbrev seen : ℤ → ℤ
+seen z = toZ w64 (ofZ w64 z)
+
+turn : (a : ℕ) (l : List ℕ) (z : ℤ) → mag z < 9223372036854775808 → a ≤ length l → Moved (length (take (length l - a) (drop a l))) z → leZ (seen z) (pos 0) ≡ false
+    → T (nonNeg (seen z)) × (0 < natAbs (seen z)) × (a + natAbs (seen z) ≤ length l)
+turn a l z f h m e =
+    let k = came (length l - a) (seen z) (rw (toZ-ofZ {w = w64} {z = z} (record { sfits = f }), ← rest a l h) m) e in
+    (k .0, k .1, omega (arith, k .2))
+
+loop-holds : tie.Need-loop-holds Inv-loop μ-loop
+loop-holds c = (omega arith, refl)
+
+returns : tie.Need-returns Inv-loop μ-loop
+returns c =
+    counts _ _ (rw (c .before .before .buffer .given .1) (c .before .before .before .before .before .before .loop .inv .0))
+
+cast-length : tie.Need-cast-length Inv-loop μ-loop
+cast-length c =
+    let r = c .before .before .before .read in
+    let loop = c .before .before .before .before .before .before .loop in
+    let k = turn (loop .length) (loop .buffer) (r .result) (r .ok) (loop .inv .0) (r .ensures) (c .if1 .left) in
+    (k .0, omega (arith, k .2))
+
+add-length : tie.Need-add-length Inv-loop μ-loop
+add-length c =
+    let r = c .before .before .before .read in
+    let loop = c .before .before .before .before .before .before .loop in
+    let k = turn (loop .length) (loop .buffer) (r .result) (r .ok) (loop .inv .0) (r .ensures) (c .if1 .left) in
+    omega (arith, k .2)
+
+loop-less : tie.Need-loop-less Inv-loop μ-loop
+loop-less c =
+    let r = c .before .before .before .read in
+    let loop = c .before .before .before .before .before .before .loop in
+    let k = turn (loop .length) (loop .buffer) (r .result) (r .ok) (loop .inv .0) (r .ensures) (c .if1 .left) in
+    omega (arith, k .1, k .2, c .before .before .buffer .given .1)
+
+loop-again : tie.Need-loop-again Inv-loop μ-loop
+loop-again c =
+    let r = c .before .before .before .read in
+    let loop = c .before .before .before .before .before .before .loop in
+    let k = turn (loop .length) (loop .buffer) (r .result) (r .ok) (loop .inv .0) (r .ensures) (c .if1 .left) in
+    let l = c .before .before .buffer .given .1 in
+    (omega (arith, k .2, l), l ∙ loop .inv .1)
+
+pub read-input-spec : {M : Type 1} → statement M
+read-input-spec =
+    tie.close
+    (tie.spec
+    Inv-loop
+    μ-loop
+    loop-holds
+    (λ c. c .before .loop .inv .0)
+    (λ part-read-start. search needs)
+    (λ part-read-end. search needs)
+    (λ read-requires κs. tt)
+    (λ same-length. search needs)
+    returns
+    cast-length
+    add-length
+    loop-less
+    loop-again
+    (λ c. c .before .loop .inv .1)
+    (λ c. counts _ _ (c .before .loop .inv .0)))
