@@ -11,11 +11,13 @@ int main(void) {
     size_t end = 0;
     for (int i = 0; i < 4; i++) {
         const uint32_t *f = fields[i];
-        uint32_t answer = dagmuize_put((uint8_t)f[0], (uint8_t)f[1], (uint8_t)f[2], f[3], text, 0, log, sizeof log, end);
+        uint32_t answer = dagmuize_put((uint8_t)f[0], (uint8_t)f[1], (uint8_t)f[2], f[3], NULL, 0, log, sizeof log, end);
         if (answer >> 16 != 0 || dagmuize_read_number(log + end, answer & 0xffff) != 0 || dagmuize_read_taken(log + end, answer & 0xffff) != (answer & 0xffff)) return 1;
         end += answer & 0xffff;
     }
     if (dagmuize_status(log, end, 3) != 0 || dagmuize_events(log, end, 3) != 3 || dagmuize_taken(log, end, 3) != end) return 2;
-    fwrite(text, 1, dagmuize_report(log, end, text, sizeof text), stdout);
-    return 0;
+    /* no room: nothing is written, and the count is 0 */
+    if (dagmuize_report(log, end, NULL, 0) != 0 || dagmuize_status(NULL, 0, 3) != 20) return 3;
+    size_t length = dagmuize_report(log, end, text, sizeof text);
+    return fwrite(text, 1, length, stdout) == length ? 0 : 4;
 }
