@@ -5,9 +5,11 @@
 --     Empty     a text is never empty
 --     Apart     a text taken apart at its line feeds, and a line at its spaces
 --     Agreed    two lines that say `decided`
+--     Laws      the laws of the text
 pub mod Decimal
 pub mod Lines
 pub mod Printed
 pub mod Empty
 pub mod Apart
 pub mod Agreed
+pub mod Laws

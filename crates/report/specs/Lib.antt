@@ -5,9 +5,11 @@
 --     Report    what is printed for a log
 --     Written   a text printed into a lent buffer
 --     Agreed    what two lines that say `decided` show
+--     Laws      what document 01 says of the text: laws, and lines letter by letter
 pub mod Quoted
 pub mod Decimal
 pub mod Text
 pub mod Report
 pub mod Written
 pub mod Agreed
+pub mod Laws
