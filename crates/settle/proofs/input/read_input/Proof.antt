@@ -43,41 +43,47 @@ turn a l z f h m e =
     let k = came (length l - a) (seen z) (rw (toZ-ofZ {w = w64} {z = z} (record { sfits = f }), ← rest a l h) m) e in
     (k .0, k .1, omega (arith, k .2))
 
+-- ---- bytes came
+
+abbrev Came : Type 0
+Came = tie.Else1 Inv-loop μ-loop
+
+abbrev place : Came → ℕ
+place c = c .before .before .before .before .before .before .loop .length
+
+abbrev bytes : Came → List ℕ
+bytes c = c .before .before .before .before .before .before .loop .buffer
+
+abbrev count : Came → ℤ
+count c = seen (c .before .before .before .read .result)
+
+counted : (c : Came) → T (nonNeg (count c)) × (0 < natAbs (count c)) × (place c + natAbs (count c) ≤ length (bytes c))
+counted c =
+    let r = c .before .before .before .read in
+    turn (place c) (bytes c) (r .result) (r .ok) (c .before .before .before .before .before .before .loop .inv .0) (r .ensures) (c .if1 .left)
+
+cast-length : tie.Need-cast-length Inv-loop μ-loop
+cast-length c = (counted c .0, omega (arith, counted c .2))
+
+add-length : tie.Need-add-length Inv-loop μ-loop
+add-length c = omega (arith, counted c .2)
+
+loop-less : tie.Need-loop-less Inv-loop μ-loop
+loop-less c = omega (arith, counted c .1, counted c .2, c .before .before .buffer .given .1)
+
+loop-again : tie.Need-loop-again Inv-loop μ-loop
+loop-again c =
+    let same = c .before .before .buffer .given .1 in
+    (omega (arith, counted c .2, same), same ∙ c .before .before .before .before .before .before .loop .inv .1)
+
+-- ---- the loop, and where it ends
+
 loop-holds : tie.Need-loop-holds Inv-loop μ-loop
 loop-holds c = (omega arith, refl)
 
 returns : tie.Need-returns Inv-loop μ-loop
 returns c =
     counts _ _ (rw (c .before .before .buffer .given .1) (c .before .before .before .before .before .before .loop .inv .0))
-
-cast-length : tie.Need-cast-length Inv-loop μ-loop
-cast-length c =
-    let r = c .before .before .before .read in
-    let loop = c .before .before .before .before .before .before .loop in
-    let k = turn (loop .length) (loop .buffer) (r .result) (r .ok) (loop .inv .0) (r .ensures) (c .if1 .left) in
-    (k .0, omega (arith, k .2))
-
-add-length : tie.Need-add-length Inv-loop μ-loop
-add-length c =
-    let r = c .before .before .before .read in
-    let loop = c .before .before .before .before .before .before .loop in
-    let k = turn (loop .length) (loop .buffer) (r .result) (r .ok) (loop .inv .0) (r .ensures) (c .if1 .left) in
-    omega (arith, k .2)
-
-loop-less : tie.Need-loop-less Inv-loop μ-loop
-loop-less c =
-    let r = c .before .before .before .read in
-    let loop = c .before .before .before .before .before .before .loop in
-    let k = turn (loop .length) (loop .buffer) (r .result) (r .ok) (loop .inv .0) (r .ensures) (c .if1 .left) in
-    omega (arith, k .1, k .2, c .before .before .buffer .given .1)
-
-loop-again : tie.Need-loop-again Inv-loop μ-loop
-loop-again c =
-    let r = c .before .before .before .read in
-    let loop = c .before .before .before .before .before .before .loop in
-    let k = turn (loop .length) (loop .buffer) (r .result) (r .ok) (loop .inv .0) (r .ensures) (c .if1 .left) in
-    let l = c .before .before .buffer .given .1 in
-    (omega (arith, k .2, l), l ∙ loop .inv .1)
 
 pub read-input-spec : {M : Type 1} → statement M
 read-input-spec =
