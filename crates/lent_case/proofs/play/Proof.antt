@@ -1,0 +1,38 @@
+-- `lent_case::play` is safe and ends: command after command, each of three bytes or more. Assumes nothing.
+use Prim.Native.Nat.{_≤_, _-_}
+use lib.ListN.{length}
+use borrow.Author.Needs.{needs}
+use Rattle.lent_case.proofs.play.Statement.{statement}
+use Rattle.lent_case.proofs.play.Tie as tie
+
+abbrev Inv-loop : tie.InvT-loop
+Inv-loop script r₀ at₀ r at = at ≤ length script
+
+abbrev μ-loop : tie.MeasureT-loop
+μ-loop script r₀ at₀ r at = length script - at
+
+pub play-spec : {M : Type 1} → statement M
+play-spec =
+    tie.close
+    (tie.spec
+    Inv-loop
+    μ-loop
+    (λ open-requires κs. tt)
+    (λ loop-holds. search needs)
+    (λ sub-taken. search needs)
+    (λ part-taken-start. search needs)
+    (λ part-taken-end. search needs)
+    (λ taken-requires κs. tt)
+    (λ returns. search needs)
+    (λ sub-if2. search needs)
+    (λ returns-2. search needs)
+    (λ add-start. search needs)
+    (λ add-end. search needs)
+    (λ shared-slice-read-command. search needs)
+    (λ sub-command. search needs)
+    (λ part-command-start. search needs)
+    (λ part-command-end. search needs)
+    (λ command-requires κs. tt)
+    (λ loop-less. search needs)
+    (λ loop-again. search needs)
+    (λ returns-3. search needs))

@@ -1,0 +1,46 @@
+// One command of a script, by its tag: a field of a log as document 01 has it (a note is written out as it stands), or one of these letters.
+//     N  n, rule     the head, made up              H             shows the head
+//     S  s, ..       a station's entry, made up     E  s          shows a station's entry
+//     B  b, ..       a ballot's entry, made up      V  b          shows a ballot's entry
+//     K  s           LOOK                           b  bytes      BODY
+//     r  limit, log  RUN                            d  bytes      READ
+//     t  taken, log  REST                           l  claim      its length
+use crate::made_up;
+use crate::parts;
+use crate::print;
+use crate::script::byte;
+use crate::settled;
+use crate::show;
+use settlement::record::Settlement;
+
+// What only asks or shows.
+fn asks(tag: u8, body: &[u8], r: Settlement) {
+    match tag {
+        0x30 => print::text(body),
+        b'K' => settled::looks(byte(body, 0), r),
+        b'H' => show::head(r),
+        b'E' => show::station(byte(body, 0), r),
+        b'V' => show::ballot(byte(body, 0), r),
+        b'b' => parts::body_of(body),
+        b'd' => parts::read_of(body),
+        b't' => parts::rest_of(body),
+        b'l' => parts::length(body),
+        _ => {}
+    }
+}
+
+// The settlement after the command.
+pub fn command(tag: u8, body: &[u8], r: Settlement) -> Settlement {
+    match tag {
+        0x01 => settled::opens(body, r),
+        0x10..=0x14 => settled::plays(tag, body, r),
+        b'N' => made_up::with_head(body, r),
+        b'S' => made_up::with_station(body, r),
+        b'B' => made_up::with_ballot(body, r),
+        b'r' => parts::runs(body),
+        _ => {
+            asks(tag, body, r);
+            r
+        }
+    }
+}

@@ -1,0 +1,61 @@
+// A record made up by hand: the number of stations and the rule, a station's entry, or a ballot's.
+use crate::script::byte;
+use crate::script::word;
+use entry::entry::Ballot;
+use entry::entry::Stage;
+use entry::entry::Station;
+use settlement::record::Settlement;
+
+// The number of stations and the rule.
+pub fn with_head(body: &[u8], r: Settlement) -> Settlement {
+    let mut next = r;
+    next.count = byte(body, 0);
+    next.rule = byte(body, 1);
+    next
+}
+
+// The stages in document 01's order.
+fn stage(number: u8) -> Stage {
+    match number {
+        0 => Stage::Idle,
+        1 => Stage::Waiting,
+        2 => Stage::Voting,
+        3 => Stage::Awaiting,
+        4 => Stage::Seeking,
+        5 => Stage::FinishVoting,
+        6 => Stage::FinishAwaiting,
+        _ => Stage::Decided,
+    }
+}
+
+// Station, stage, lost, cursor, round; then held, claim, word and decision of four bytes each.
+pub fn with_station(body: &[u8], r: Settlement) -> Settlement {
+    let i = (byte(body, 0) % 32) as usize;
+    let t = Station {
+        stage: stage(byte(body, 1)),
+        lost: byte(body, 2) != 0,
+        cursor: byte(body, 3),
+        round: byte(body, 4),
+        held: word(body, 5),
+        claim: word(body, 9),
+        word: word(body, 13),
+        decision: word(body, 17),
+    };
+    let mut next = r;
+    next.stations[i] = t;
+    next
+}
+
+// Ballot; then whether 0 was cast, 1 was cast, it is answered, and the answer.
+pub fn with_ballot(body: &[u8], r: Settlement) -> Settlement {
+    let i = (byte(body, 0) % 64) as usize;
+    let t = Ballot {
+        cast0: byte(body, 1) != 0,
+        cast1: byte(body, 2) != 0,
+        answered: byte(body, 3) != 0,
+        answer: byte(body, 4) != 0,
+    };
+    let mut next = r;
+    next.ballots[i] = t;
+    next
+}

@@ -1,0 +1,58 @@
+// OPEN, the five events and LOOK.
+use crate::lending::open_through;
+use crate::print;
+use crate::script::byte;
+use crate::script::word;
+use event::event::Event;
+use lent::through::play_through;
+use settlement::look::look;
+use settlement::record::Outcome;
+use settlement::record::Settlement;
+use settlement::record::Standing;
+
+// The number is written, and the settlement goes on.
+fn goes_on(a: Outcome) -> Settlement {
+    print::number(a.number);
+    a.settlement
+}
+
+pub fn opens(body: &[u8], r: Settlement) -> Settlement {
+    goes_on(open_through(r, byte(body, 0), byte(body, 1)))
+}
+
+// The event of a tag, its numbers in the order that a log has.
+fn event_of(tag: u8, first: u8, second: u8, v: u32) -> Event {
+    match tag {
+        0x10 => Event::Claim { s: first, v },
+        0x11 => Event::Deliver {
+            t: first,
+            s: second,
+        },
+        0x12 => Event::Step { s: first },
+        0x13 => Event::Lose { s: first },
+        _ => Event::Answer {
+            b: first,
+            a: second,
+        },
+    }
+}
+
+pub fn plays(tag: u8, body: &[u8], r: Settlement) -> Settlement {
+    goes_on(play_through(
+        r,
+        event_of(tag, byte(body, 0), byte(body, 1), word(body, 1)),
+    ))
+}
+
+fn standing(a: Standing) {
+    print::tell(b": number ", a.number);
+    print::mark(b" decided ", a.decided);
+    print::spell(b" claim ", a.claim);
+    print::tell(b" votes ", a.votes);
+    print::text(b"\n");
+}
+
+// LOOK s, with all its values.
+pub fn looks(s: u8, r: Settlement) {
+    standing(look(r, s));
+}
