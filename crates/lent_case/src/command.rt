@@ -1,7 +1,7 @@
 // One command of a script, by its tag: a field of a log as document 01 has it (a note is written out as it stands), or one of these letters.
 //     N  n, rule     the head, made up              H             shows the head
 //     S  s, ..       a station's entry, made up     E  s          shows a station's entry
-//     B  b, ..       a ballot's entry, made up      V  b          shows a ballot's entry
+//     B  b, marks    a ballot's entry, made up      V  b          shows a ballot's entry
 //     K  s           LOOK                           b  bytes      BODY
 //     r  limit, log  RUN                            d  bytes      READ
 //     t  taken, log  REST                           l  claim      its length
@@ -13,14 +13,21 @@ use crate::settled;
 use crate::show;
 use settlement::record::Settlement;
 
-// What only asks or shows.
-fn asks(tag: u8, body: &[u8], r: Settlement) {
+// What only asks the settlement.
+fn asks(tag: u8, first: u8, r: Settlement) {
+    match tag {
+        b'K' => settled::looks(first, r),
+        b'H' => show::head(r),
+        b'E' => show::station(first, r),
+        b'V' => show::ballot(first, r),
+        _ => {}
+    }
+}
+
+// What asks no settlement.
+fn reads(tag: u8, body: &[u8]) {
     match tag {
         0x30 => print::text(body),
-        b'K' => settled::looks(byte(body, 0), r),
-        b'H' => show::head(r),
-        b'E' => show::station(byte(body, 0), r),
-        b'V' => show::ballot(byte(body, 0), r),
         b'b' => parts::body_of(body),
         b'd' => parts::read_of(body),
         b't' => parts::rest_of(body),
@@ -34,12 +41,13 @@ pub fn command(tag: u8, body: &[u8], r: Settlement) -> Settlement {
     match tag {
         0x01 => settled::opens(body, r),
         0x10..=0x14 => settled::plays(tag, body, r),
-        b'N' => made_up::with_head(body, r),
+        b'N' => made_up::with_head(byte(body, 0), byte(body, 1), r),
         b'S' => made_up::with_station(body, r),
-        b'B' => made_up::with_ballot(body, r),
+        b'B' => made_up::with_ballot(byte(body, 0), byte(body, 1), r),
         b'r' => parts::runs(body),
         _ => {
-            asks(tag, body, r);
+            asks(tag, byte(body, 0), r);
+            reads(tag, body);
             r
         }
     }

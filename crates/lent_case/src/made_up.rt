@@ -7,10 +7,10 @@ use entry::entry::Station;
 use settlement::record::Settlement;
 
 // The number of stations and the rule.
-pub fn with_head(body: &[u8], r: Settlement) -> Settlement {
+pub fn with_head(n: u8, rule: u8, r: Settlement) -> Settlement {
     let mut next = r;
-    next.count = byte(body, 0);
-    next.rule = byte(body, 1);
+    next.count = n;
+    next.rule = rule;
     next
 }
 
@@ -29,9 +29,8 @@ fn stage(number: u8) -> Stage {
 }
 
 // Station, stage, lost, cursor, round; then held, claim, word and decision of four bytes each.
-pub fn with_station(body: &[u8], r: Settlement) -> Settlement {
-    let i = (byte(body, 0) % 32) as usize;
-    let t = Station {
+fn station_in(body: &[u8]) -> Station {
+    Station {
         stage: stage(byte(body, 1)),
         lost: byte(body, 2) != 0,
         cursor: byte(body, 3),
@@ -40,20 +39,25 @@ pub fn with_station(body: &[u8], r: Settlement) -> Settlement {
         claim: word(body, 9),
         word: word(body, 13),
         decision: word(body, 17),
-    };
+    }
+}
+
+pub fn with_station(body: &[u8], r: Settlement) -> Settlement {
+    let i = (byte(body, 0) % 32) as usize;
+    let t = station_in(body);
     let mut next = r;
     next.stations[i] = t;
     next
 }
 
-// Ballot; then whether 0 was cast, 1 was cast, it is answered, and the answer.
-pub fn with_ballot(body: &[u8], r: Settlement) -> Settlement {
-    let i = (byte(body, 0) % 64) as usize;
+// The marks are the low bits of one number: 0 was cast, 1 was cast, it is answered, and the answer.
+pub fn with_ballot(b: u8, marks: u8, r: Settlement) -> Settlement {
+    let i = (b % 64) as usize;
     let t = Ballot {
-        cast0: byte(body, 1) != 0,
-        cast1: byte(body, 2) != 0,
-        answered: byte(body, 3) != 0,
-        answer: byte(body, 4) != 0,
+        cast0: marks % 2 == 1,
+        cast1: marks / 2 % 2 == 1,
+        answered: marks / 4 % 2 == 1,
+        answer: marks / 8 % 2 == 1,
     };
     let mut next = r;
     next.ballots[i] = t;

@@ -19,16 +19,11 @@ fn play(script: &[u8]) {
     let mut r = opened.settlement;
     let mut at: usize = 0;
     while at < script.len() {
-        let taken = script::taken(&script[at..]);
-        if taken < 3 {
+        let end = script::end(script, at);
+        if end <= at {
             return;
         }
-        if script.len() - at < taken {
-            return;
-        }
-        let start = at + 3;
-        let end = at + taken;
-        r = command::command(script[at], &script[start..end], r);
+        r = command::command(script::byte(script, at), script::body(script, at, end), r);
         at = end;
     }
 }

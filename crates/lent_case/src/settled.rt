@@ -12,7 +12,7 @@ use settlement::record::Standing;
 
 // The number is written, and the settlement goes on.
 fn goes_on(a: Outcome) -> Settlement {
-    print::number(a.number);
+    print::small(a.number);
     a.settlement
 }
 
@@ -37,22 +37,22 @@ fn event_of(tag: u8, first: u8, second: u8, v: u32) -> Event {
     }
 }
 
+fn event_in(tag: u8, body: &[u8]) -> Event {
+    event_of(tag, byte(body, 0), byte(body, 1), word(body, 1))
+}
+
 pub fn plays(tag: u8, body: &[u8], r: Settlement) -> Settlement {
-    goes_on(play_through(
-        r,
-        event_of(tag, byte(body, 0), byte(body, 1), word(body, 1)),
-    ))
+    goes_on(play_through(r, event_in(tag, body)))
 }
 
 fn standing(a: Standing) {
-    print::tell(b": number ", a.number);
-    print::mark(b" decided ", a.decided);
-    print::spell(b" claim ", a.claim);
-    print::tell(b" votes ", a.votes);
-    print::text(b"\n");
+    print::small(a.number);
+    print::mark(a.decided);
+    print::claim(a.claim);
+    print::small(a.votes);
 }
 
-// LOOK s, with all its values.
+// LOOK s: its number, whether decided, the claim and the votes.
 pub fn looks(s: u8, r: Settlement) {
     standing(look(r, s));
 }

@@ -5,28 +5,23 @@ use entry::entry::Station;
 use entry::stage::rank;
 use settlement::record::Settlement;
 
-fn count_and_rule(count: u8, rule: u8) {
-    print::tell(b": stations ", count);
-    print::tell(b" rule ", rule);
-    print::text(b"\n");
-}
-
+// The number of stations, and the rule.
 pub fn head(r: Settlement) {
-    count_and_rule(r.count, r.rule);
+    print::small(r.count);
+    print::small(r.rule);
 }
 
-// The stage is told by its place in document 01's order, from idle, 0, to decided, 7.
+// The stage's place in document 01's order, from idle, 0, to decided, 7; lost; cursor, round; held, claim, word and decision.
 fn station_entry(t: Station) {
     let stage = t.stage;
-    print::tell(b": stage ", rank(stage));
-    print::mark(b" lost ", t.lost);
-    print::tell(b" cursor ", t.cursor);
-    print::tell(b" round ", t.round);
-    print::spell(b" held ", t.held);
-    print::spell(b" claim ", t.claim);
-    print::spell(b" word ", t.word);
-    print::spell(b" decision ", t.decision);
-    print::text(b"\n");
+    print::small(rank(stage));
+    print::mark(t.lost);
+    print::small(t.cursor);
+    print::small(t.round);
+    print::claim(t.held);
+    print::claim(t.claim);
+    print::claim(t.word);
+    print::claim(t.decision);
 }
 
 pub fn station(s: u8, r: Settlement) {
@@ -34,12 +29,12 @@ pub fn station(s: u8, r: Settlement) {
     station_entry(r.stations[i]);
 }
 
+// Whether 0 was cast, 1 was cast, it is answered, and the answer.
 fn ballot_entry(t: Ballot) {
-    print::mark(b": cast0 ", t.cast0);
-    print::mark(b" cast1 ", t.cast1);
-    print::mark(b" answered ", t.answered);
-    print::mark(b" answer ", t.answer);
-    print::text(b"\n");
+    print::mark(t.cast0);
+    print::mark(t.cast1);
+    print::mark(t.answered);
+    print::mark(t.answer);
 }
 
 pub fn ballot(b: u8, r: Settlement) {

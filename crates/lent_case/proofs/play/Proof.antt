@@ -1,4 +1,4 @@
--- `lent_case::play` is safe and ends: command after command, each of three bytes or more. Assumes nothing.
+-- `lent_case::play` is safe and ends: command after command, and each goes on in the script. Assumes nothing.
 use Prim.Native.Nat.{_≤_, _-_}
 use lib.ListN.{length}
 use borrow.Author.Needs.{needs}
@@ -19,20 +19,11 @@ play-spec =
     μ-loop
     (λ open-requires κs. tt)
     (λ loop-holds. search needs)
-    (λ sub-taken. search needs)
-    (λ part-taken-start. search needs)
-    (λ part-taken-end. search needs)
-    (λ taken-requires κs. tt)
+    (λ end-requires κs. tt)
     (λ returns. search needs)
-    (λ sub-if2. search needs)
-    (λ returns-2. search needs)
-    (λ add-start. search needs)
-    (λ add-end. search needs)
-    (λ shared-slice-read-command. search needs)
-    (λ sub-command. search needs)
-    (λ part-command-start. search needs)
-    (λ part-command-end. search needs)
+    (λ byte-requires κs. tt)
+    (λ body-requires κs. tt)
     (λ command-requires κs. tt)
     (λ loop-less. search needs)
     (λ loop-again. search needs)
-    (λ returns-3. search needs))
+    (λ returns-2. search needs))
