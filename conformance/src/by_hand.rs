@@ -50,6 +50,11 @@ impl Hand {
     /// A call, and the numbers that it has to answer.
     fn call(&mut self, command: Command, numbers: &[u64]) {
         let expected: String = numbers.iter().map(|x| format!(" {x}")).collect();
+        self.told(command, &expected);
+    }
+
+    /// A call, and all that is written for it.
+    fn told(&mut self, command: Command, expected: &str) {
         let words = command.words();
         assert_eq!(self.0.call(command), expected, "{words}");
     }
@@ -115,7 +120,9 @@ impl Hand {
     }
 
     fn openings(&mut self) {
-        self.heading("OPEN. n is 0 or above 32: 40. Rule neither 1 nor 2: 41. Refused, it returns the blank settlement.");
+        self.heading(
+            "OPEN. n is 0 or above 32: 40. Rule neither 1 nor 2: 41. Refused, it returns the blank settlement.",
+        );
         for (n, rule, number) in [
             (0, 1, 40),
             (33, 2, 40),
@@ -194,9 +201,15 @@ impl Hand {
             self.sound(n, 1, at(Decided, 200), [0, 1, 3, votes]);
         }
         self.heading("rule 2 2k before the bit vote, 2k + 1 after it and before the finish vote, 2k + 2 after");
-        for (stage, votes) in
-            [(Idle, 0), (Waiting, 0), (Voting, 62), (Awaiting, 63), (Seeking, 63), (VotingFinish, 63), (AwaitingFinish, 64)]
-        {
+        for (stage, votes) in [
+            (Idle, 0),
+            (Waiting, 0),
+            (Voting, 62),
+            (Awaiting, 63),
+            (Seeking, 63),
+            (VotingFinish, 63),
+            (AwaitingFinish, 64),
+        ] {
             self.sound(32, 2, at(stage, 31), [0, 0, 0, votes]);
         }
         self.sound(1, 2, at(Decided, 0), [0, 1, 3, 2]);
@@ -323,7 +336,8 @@ impl Hand {
     /// Whole entries after each kind of step, from entries in which no part is 0.
     fn stays(&mut self) {
         self.heading("What a step does not name stays: whole entries after one event, no part of them 0 before");
-        let full = Station { stage: Idle, lost: false, cursor: 1, round: 1, held: 0xff, claim: 6, word: 0xf0, decision: 77 };
+        let full =
+            Station { stage: Idle, lost: false, cursor: 1, round: 1, held: 0xff, claim: 6, word: 0xf0, decision: 77 };
         for (rule, after) in [(1, [1, 0, 1, 1, 255, 42, 240, 77]), (2, [1, 0, 1, 1, 255, 42, 240, 77])] {
             self.made(4, rule, 0, full);
             self.event(Event::Claim { s: 0, v: 42 }, 0);
@@ -332,17 +346,42 @@ impl Hand {
             self.call(Command::ShowStation(0), &[1, 1, 1, 1, 255, 42, 240, 77]);
         }
         let at = |stage| Station { stage, ..full };
-        self.step_of(1, at(Waiting), [2, 0, 0, 1, 255, 6, 240, 77], "Waiting, own claim held: j becomes the station's own number");
+        self.step_of(
+            1,
+            at(Waiting),
+            [2, 0, 0, 1, 255, 6, 240, 77],
+            "Waiting, own claim held: j becomes the station's own number",
+        );
         self.step_of(2, at(Waiting), [2, 0, 0, 1, 255, 6, 240, 77], "the same under rule 2");
         self.step_of(1, at(Voting), [3, 0, 1, 1, 255, 6, 240, 77], "rule 1 casts bit k of j in ballot k");
         self.call(Command::ShowBallot(1), &[1, 0, 0, 0]);
         self.step_of(2, at(Voting), [3, 0, 1, 1, 255, 6, 240, 77], "Rule 2 casts bit k of the claim of j in ballot 2k");
         self.call(Command::ShowBallot(2), &[1, 0, 0, 0]);
-        self.step_of(2, at(VotingFinish), [6, 0, 1, 1, 255, 6, 240, 77], "in ballot 2k+1 it casts 1 if d equals the whole claim of j");
+        self.step_of(
+            2,
+            at(VotingFinish),
+            [6, 0, 1, 1, 255, 6, 240, 77],
+            "in ballot 2k+1 it casts 1 if d equals the whole claim of j",
+        );
         self.call(Command::ShowBallot(3), &[1, 0, 0, 0]);
-        self.step_of(1, at(Seeking), [4, 0, 2, 1, 255, 6, 240, 77], "Seeking: j becomes (j + 1) mod n; no match: it stays seeking");
-        self.step_of(1, Station { word: 2, ..at(Seeking) }, [7, 0, 2, 1, 255, 6, 2, 0], "rule 1 decides the claim of j if k + 1 = R");
-        self.step_of(1, Station { round: 0, ..at(Seeking) }, [2, 0, 2, 1, 255, 6, 240, 77], "otherwise adds 1 to k and is voting");
+        self.step_of(
+            1,
+            at(Seeking),
+            [4, 0, 2, 1, 255, 6, 240, 77],
+            "Seeking: j becomes (j + 1) mod n; no match: it stays seeking",
+        );
+        self.step_of(
+            1,
+            Station { word: 2, ..at(Seeking) },
+            [7, 0, 2, 1, 255, 6, 2, 0],
+            "rule 1 decides the claim of j if k + 1 = R",
+        );
+        self.step_of(
+            1,
+            Station { round: 0, ..at(Seeking) },
+            [2, 0, 2, 1, 255, 6, 240, 77],
+            "otherwise adds 1 to k and is voting",
+        );
         self.step_of(2, at(Seeking), [5, 0, 2, 1, 255, 6, 240, 77], "rule 2 is voting on ballot 2k+1");
         self.takes(full);
     }
@@ -408,69 +447,102 @@ impl Hand {
 
     fn lengths(&mut self) {
         self.heading("The length of a claim is the count of its binary digits, with 1 for claim 0");
-        for (v, digits) in [(0, 1), (1, 1), (2, 2), (3, 2), (4, 3), (7, 3), (8, 4), (1 << 31, 32), ((1 << 31) - 1, 31), (u32::MAX, 32)] {
+        for (v, digits) in
+            [(0, 1), (1, 1), (2, 2), (3, 2), (4, 3), (7, 3), (8, 4), (1 << 31, 32), ((1 << 31) - 1, 31), (u32::MAX, 32)]
+        {
             self.call(Command::Length(v), &[digits]);
         }
     }
 
     fn bodies(&mut self) {
-        self.heading("READ and BODY: the caller's own bytes, or an empty part where READ refuses");
+        self.heading("READ and BODY: the caller's own bytes, or an empty part at the start where READ refuses");
         let note = |count| Field::Note((0..count).collect()).bytes();
-        for field in [
-            Field::Opening { n: 2, rule: 1 }.bytes(),
-            Field::Event(Event::Claim { s: 3, v: 0x0102_0304 }).bytes(),
-            Field::Event(Event::Deliver { t: 9, s: 8 }).bytes(),
-            Field::Event(Event::Step { s: 7 }).bytes(),
-            Field::Event(Event::Lose { s: 6 }).bytes(),
-            Field::Event(Event::Answer { b: 5, a: 4 }).bytes(),
-            note(0),
-            note(1),
-            note(64),
-            note(65),
-            vec![],
-            vec![0x12],
-            vec![0x12, 0],
-            vec![0x02, 0, 1, 7],
-            vec![0x12, 0, 0],
-            vec![0x12, 1, 1, 7],
-            vec![0x12, 0, 2, 7, 7],
-            vec![0x10, 0, 5, 1, 2, 3, 4],
-            vec![0x30, 0, 64, 1],
+        let long: String = (0..64).map(|byte| format!("{byte:02x}")).collect();
+        for (field, read, body) in [
+            (vec![0x01, 0, 2, 2, 1], " 1 2 1 0 5", " 2 0201"),
+            (vec![0x10, 0, 5, 3, 1, 2, 3, 4], " 16 3 0 16909060 8", " 5 0301020304"),
+            (vec![0x11, 0, 2, 9, 8], " 17 9 8 0 5", " 2 0908"),
+            (vec![0x12, 0, 1, 7], " 18 7 0 0 4", " 1 07"),
+            (vec![0x13, 0, 1, 6], " 19 6 0 0 4", " 1 06"),
+            (vec![0x14, 0, 2, 5, 4], " 20 5 4 0 5", " 2 0504"),
+            (note(0), " 48 0 0 0 3", " 0 "),
+            (note(1), " 48 0 0 0 4", " 1 00"),
+            (note(64), " 48 0 0 0 67", &format!(" 64 {long}")),
+            (note(65), " 22", " 0 "),
+            (vec![0x02, 0, 1, 7], " 21", " 0 "),
+            (vec![0x12, 0, 0], " 22", " 0 "),
+            (vec![0x12, 1, 1, 7], " 22", " 0 "),
+            (vec![0x12, 0, 2, 7, 7], " 22", " 0 "),
         ] {
             for after in [vec![], vec![0x13, 0, 1, 2]] {
                 let bytes = [field.clone(), after].concat();
-                self.0.call(Command::Read(bytes.clone()));
-                self.0.call(Command::Body(bytes));
+                self.told(Command::Read(bytes.clone()), read);
+                self.told(Command::Body(bytes), body);
             }
+        }
+        self.heading("Fewer than three bytes: 20. Body cut short: 23.");
+        for (bytes, read) in [
+            (vec![], " 20"),
+            (vec![0x12], " 20"),
+            (vec![0x02, 0], " 20"),
+            (vec![0x10, 0, 5, 1, 2, 3, 4], " 23"),
+            (vec![0x12, 0, 1], " 23"),
+            (vec![0x30, 0, 64, 1], " 23"),
+        ] {
+            self.told(Command::Read(bytes.clone()), read);
+            self.told(Command::Body(bytes), " 0 ");
         }
     }
 
     fn rests(&mut self) {
         self.heading("REST log, taken: the part from there, or an empty part at the end if taken exceeds the length");
-        let log = written(1, 1, &[CLAIM]);
-        for taken in [0, 1, 5, 12, 13, 14, 255, 256, u32::MAX] {
-            self.0.call(Command::Rest { taken, log: log.clone() });
+        let log = vec![1, 0, 2, 1, 1, 0x12, 0, 1, 0];
+        for (taken, rest) in [
+            (0, " 9 010002010112000100"),
+            (1, " 8 0002010112000100"),
+            (5, " 4 12000100"),
+            (8, " 1 00"),
+            (9, " 0 "),
+            (10, " 0 "),
+            (255, " 0 "),
+            (256, " 0 "),
+            (u32::MAX, " 0 "),
+        ] {
+            self.told(Command::Rest { taken, log: log.clone() }, rest);
         }
         for taken in [0, 1] {
-            self.call(Command::Rest { taken, log: vec![] }, &[0]);
+            self.told(Command::Rest { taken, log: vec![] }, " 0 ");
         }
     }
 
     fn limits(&mut self) {
         self.heading("RUN log, limit: case S with a note, under limits from 0 to one more than its events; LOOK at each station after it");
         let log = with_note();
-        for limit in [0, 1, 2, 7, 8, 14, 15, 16, 65_535, 65_536, u32::MAX] {
-            self.0.call(Command::Run { limit, log: log.clone() });
-            self.0.call(Command::ShowHead);
-            for s in 0..3 {
-                self.0.call(Command::Look(s));
-            }
+        for (limit, numbers, looks) in [
+            (0, [0, 5, 26], [[0, 0, 0, 0], [0, 0, 0, 0]]),
+            (1, [1, 13, 26], [[0, 0, 0, 0], [0, 0, 0, 0]]),
+            (3, [3, 26, 26], [[0, 0, 0, 0], [0, 0, 0, 0]]),
+            (4, [4, 31, 26], [[0, 0, 0, 0], [0, 0, 0, 0]]),
+            (5, [5, 41, 26], [[0, 0, 0, 0], [0, 0, 0, 0]]),
+            (7, [7, 49, 26], [[0, 0, 0, 1], [0, 0, 0, 0]]),
+            (12, [12, 70, 26], [[0, 1, 9, 1], [0, 0, 0, 1]]),
+            (14, [14, 78, 26], [[0, 1, 9, 1], [0, 0, 0, 1]]),
+            (15, [15, 82, 0], [[0, 1, 9, 1], [0, 1, 9, 1]]),
+            (16, [15, 82, 0], [[0, 1, 9, 1], [0, 1, 9, 1]]),
+            (u32::MAX, [15, 82, 0], [[0, 1, 9, 1], [0, 1, 9, 1]]),
+        ] {
+            self.call(Command::Run { limit, log: log.clone() }, &numbers);
+            self.call(Command::ShowHead, &[2, 1]);
+            self.look(0, looks[0]);
+            self.look(1, looks[1]);
+            self.look(2, [1, 0, 0, 0]);
             self.show(0);
             self.show(1);
             self.0.call(Command::ShowBallot(0));
-            self.0.call(Command::Event(STEP));
         }
-        self.heading("the limit goes before READ's numbers and 25; nothing left goes before the limit; OPEN's numbers and 24");
+        self.heading(
+            "the limit goes before READ's numbers and 25; nothing left goes before the limit; OPEN's numbers and 24",
+        );
         let opening = written(2, 1, &[]);
         for (limit, rest, numbers) in [
             (0, vec![], [0, 5, 0]),
@@ -484,9 +556,13 @@ impl Hand {
         ] {
             self.call(Command::Run { limit, log: [opening.clone(), rest].concat() }, &numbers);
         }
-        for (log, status) in
-            [(vec![], 20), (vec![0x12, 0, 1, 0], 24), (vec![0x30, 0, 0], 24), (written(33, 3, &[]), 40), (written(1, 3, &[]), 41)]
-        {
+        for (log, status) in [
+            (vec![], 20),
+            (vec![0x12, 0, 1, 0], 24),
+            (vec![0x30, 0, 0], 24),
+            (written(33, 3, &[]), 40),
+            (written(1, 3, &[]), 41),
+        ] {
             self.call(Command::Run { limit: 3, log }, &[0, 0, status]);
             self.call(Command::ShowHead, &[0, 1]);
             self.look(0, [1, 0, 0, 0]);
@@ -510,4 +586,3 @@ fn with_note() -> Vec<u8> {
     last.iter().for_each(|event| log.extend(Field::Event(*event).bytes()));
     log
 }
-

@@ -8,11 +8,17 @@ use crate::record::{Ballot, Record, Station, STAGES};
 
 #[derive(Clone, Debug)]
 pub enum Command {
-    Open { n: u8, rule: u8 },
+    Open {
+        n: u8,
+        rule: u8,
+    },
     Event(Event),
     Look(u8),
     /// Made up: the number of stations and the rule, a station's entry, a ballot's.
-    Head { n: u8, rule: u8 },
+    Head {
+        n: u8,
+        rule: u8,
+    },
     Station(u8, Station),
     Ballot(u8, Ballot),
     ShowHead,
@@ -20,8 +26,14 @@ pub enum Command {
     ShowBallot(u8),
     Body(Vec<u8>),
     Read(Vec<u8>),
-    Rest { taken: u32, log: Vec<u8> },
-    Run { limit: u32, log: Vec<u8> },
+    Rest {
+        taken: u32,
+        log: Vec<u8>,
+    },
+    Run {
+        limit: u32,
+        log: Vec<u8>,
+    },
     Length(u32),
 }
 

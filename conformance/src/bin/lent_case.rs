@@ -1,0 +1,125 @@
+//! Runs the program `lent_case` on its stored script and on random ones, and compares all that it writes with document 01's answers.
+//! `--store` writes the stored script and its answers to crates/lent_case instead.
+
+use conformance::by_hand;
+use conformance::generate::Rng;
+use conformance::made_up::{self, Counts, Numbers};
+use conformance::script::{Script, ROOM};
+use std::fs;
+use std::io::{self, Read, Write};
+use std::path::Path;
+use std::process::{Command, ExitCode, Stdio};
+use std::time::Instant;
+
+const SEED: u64 = 20_261_116;
+const SCRIPTS: usize = 60;
+const PROGRAM: &str = "target/bin/lent_case";
+const CRATE: &str = "crates/lent_case";
+
+/// Numbers that an event or LOOK of a made-up record has to meet, and RUN's statuses under small limits.
+const EVENTS: [usize; 14] = [0, 1, 2, 3, 4, 5, 6, 7, 8, 9, 10, 11, 12, 42];
+const LOOKS: [usize; 3] = [0, 1, 42];
+const RUNS: [usize; 2] = [0, 26];
+
+fn main() -> ExitCode {
+    let stores = std::env::args().any(|word| word == "--store");
+    let done = if stores { store() } else { compare() };
+    match done {
+        Ok(told) => {
+            println!("{told}");
+            ExitCode::SUCCESS
+        }
+        Err(why) => {
+            println!("DIFFERENCE: {why}");
+            ExitCode::FAILURE
+        }
+    }
+}
+
+fn file(name: &str) -> std::path::PathBuf {
+    Path::new(env!("CARGO_MANIFEST_DIR")).join("..").join(name)
+}
+
+fn told(what: &str) -> impl Fn(io::Error) -> String + '_ {
+    move |error| format!("{what}: {error}")
+}
+
+fn store() -> Result<String, String> {
+    let script = by_hand::script();
+    fs::write(file(CRATE).join("stdin"), &script.bytes).map_err(told("stdin"))?;
+    fs::write(file(CRATE).join("stdout"), &script.text).map_err(told("stdout"))?;
+    Ok(format!("stored: a script of {} bytes, {} lines of answers", script.bytes.len(), script.lines.len()))
+}
+
+fn compare() -> Result<String, String> {
+    let start = Instant::now();
+    let stored = by_hand::script();
+    same_file("stdin", &stored.bytes)?;
+    same_file("stdout", stored.text.as_bytes())?;
+    run(&stored)?;
+    let mut rng = Rng::new(SEED);
+    let mut counts = Counts::default();
+    let mut lines = 0;
+    for _ in 0..SCRIPTS {
+        let script = made_up::script(&mut rng, &mut counts);
+        lines += script.lines.len();
+        run(&script)?;
+    }
+    met("an event", &counts.events, &EVENTS)?;
+    met("LOOK", &counts.looks, &LOOKS)?;
+    met("RUN", &counts.runs, &RUNS)?;
+    let table =
+        |numbers: &Numbers| -> String { numbers.iter().map(|(number, count)| format!(" {number}: {count}")).collect() };
+    println!(
+        "lent_case beside document 01: the stored script, {} lines; {SCRIPTS} random ones, {lines} lines",
+        stored.lines.len()
+    );
+    println!("events by number:{}", table(&counts.events));
+    println!("LOOKs by number:{}", table(&counts.looks));
+    println!("RUNs by status:{}", table(&counts.runs));
+    Ok(format!("{:.1} seconds, no difference", start.elapsed().as_secs_f64()))
+}
+
+fn met(what: &str, numbers: &Numbers, due: &[usize]) -> Result<(), String> {
+    match due.iter().find(|number| !numbers.contains_key(number)) {
+        Some(number) => Err(format!("no script met number {number} of {what}")),
+        None => Ok(()),
+    }
+}
+
+fn same_file(name: &str, expected: &[u8]) -> Result<(), String> {
+    let stored = fs::read(file(CRATE).join(name)).map_err(told(name))?;
+    match stored == expected {
+        true => Ok(()),
+        false => Err(format!("{CRATE}/{name} is not what by_hand.rs says; `lent_case --store` writes it")),
+    }
+}
+
+/// The program's text for a script is document 01's, byte by byte.
+fn run(script: &Script) -> Result<(), String> {
+    assert!(script.bytes.len() <= ROOM, "the script is longer than the program reads");
+    let text = written(&script.bytes).map_err(told(PROGRAM))?;
+    if text == script.text.as_bytes() {
+        return Ok(());
+    }
+    let (told, due) = (text.split(|byte| *byte == b'\n'), script.text.split('\n'));
+    let (line, (told, due)) =
+        told.zip(due).enumerate().find(|(_, (told, due))| *told != due.as_bytes()).ok_or("too few lines")?;
+    let told = String::from_utf8_lossy(told);
+    let (command, record) = script.lines.get(line).ok_or("a line too many")?;
+    Err(format!("line {}\n  document 01: {due}\n  the program: {told}\n  {command}\n  on {record:?}", line + 1))
+}
+
+fn written(script: &[u8]) -> io::Result<Vec<u8>> {
+    let mut program = Command::new(file(PROGRAM)).stdin(Stdio::piped()).stdout(Stdio::piped()).spawn()?;
+    let mut input = program.stdin.take().expect("a pipe to it");
+    let mut output = program.stdout.take().expect("a pipe from it");
+    let mut text = Vec::new();
+    std::thread::scope(|scope| {
+        let wrote = scope.spawn(move || input.write_all(script));
+        let read = output.read_to_end(&mut text);
+        wrote.join().expect("the script is written").and(read)
+    })?;
+    program.wait()?;
+    Ok(text)
+}

@@ -1,0 +1,249 @@
+//! Random scripts for `lent_case`: records made up around every clause of the record test, events and LOOKs on them, and logs under small limits.
+
+use crate::generate::{self, Rng};
+use crate::log::{written, Field};
+use crate::model::{ceil_log2, Event};
+use crate::record::{Ballot, Record, Stage, Station, STAGES};
+use crate::script::{Command, Script};
+use std::collections::BTreeMap;
+
+/// How often each number was answered.
+pub type Numbers = BTreeMap<usize, usize>;
+
+/// The numbers of events and LOOKs, and RUN's statuses.
+#[derive(Default)]
+pub struct Counts {
+    pub events: Numbers,
+    pub looks: Numbers,
+    pub runs: Numbers,
+}
+
+pub fn script(rng: &mut Rng, counts: &mut Counts) -> Script {
+    let mut script = Script::new(false);
+    while script.has_room(9000) {
+        match rng.below(10) {
+            0..=6 => made_up(rng, &mut script, counts),
+            7 => reached(rng, &mut script, counts),
+            _ => parts(rng, &mut script, counts),
+        }
+    }
+    script
+}
+
+fn first(answer: &str) -> usize {
+    answer.split_whitespace().next().and_then(|word| word.parse().ok()).unwrap_or(0)
+}
+
+fn last(answer: &str) -> usize {
+    answer.split_whitespace().last().and_then(|word| word.parse().ok()).unwrap_or(0)
+}
+
+fn call(script: &mut Script, counts: &mut Counts, command: Command) {
+    let answer = script.call(command.clone());
+    match command {
+        Command::Event(_) => *counts.events.entry(first(&answer)).or_default() += 1,
+        Command::Look(_) => *counts.looks.entry(first(&answer)).or_default() += 1,
+        Command::Run { .. } => *counts.runs.entry(last(&answer)).or_default() += 1,
+        _ => {}
+    }
+}
+
+/// A number of few bits, or at an edge.
+fn word(rng: &mut Rng) -> u32 {
+    let any = rng.next() as u32;
+    rng.pick(&[0, 1, 2, 3, 5, 7, 1 << 31, (1 << 31) - 1, u32::MAX, any, any % 8, any % 32])
+}
+
+/// A station that passes the record test.
+fn sound(rng: &mut Rng, n: u8, rule: u8) -> Station {
+    let rounds = ceil_log2(n);
+    let stage = rng.pick(&STAGES);
+    let finish = matches!(stage, Stage::VotingFinish | Stage::AwaitingFinish);
+    let in_round = matches!(stage, Stage::Voting | Stage::Awaiting | Stage::Seeking);
+    let stage = if rule == 1 && (finish || in_round && rounds == 0) { Stage::Waiting } else { stage };
+    let free = matches!(stage, Stage::Idle | Stage::Waiting) || rule == 1 && stage == Stage::Decided;
+    let (any, low) = (rng.byte(), rng.pick(&[0, 0, 1, 1, 2, 30, 31]));
+    let any_held = rng.next() as u32;
+    let round = match (free, rule) {
+        (true, _) => rng.pick(&[0, 0, 0, 1, rounds, 31, 32, any]),
+        (_, 1) => rng.byte() % rounds.max(1),
+        _ => low,
+    };
+    Station {
+        stage,
+        lost: rng.chance(10),
+        cursor: rng.byte() % n.max(1),
+        round,
+        held: rng.pick(&[u32::MAX, 0, any_held, any_held]),
+        claim: word(rng),
+        word: word(rng),
+        decision: word(rng),
+    }
+}
+
+/// One part is set at or past its edge.
+fn broken(rng: &mut Rng, n: u8, station: Station) -> Station {
+    let rounds = ceil_log2(n);
+    let any = rng.byte();
+    match rng.below(3) {
+        0 => Station { cursor: rng.pick(&[n.wrapping_sub(1), n, n.wrapping_add(1), 31, 32, 255, any]), ..station },
+        1 => Station { round: rng.pick(&[rounds.wrapping_sub(1), rounds, 31, 32, 33, 255, any]), ..station },
+        _ => Station { stage: rng.pick(&STAGES), ..station },
+    }
+}
+
+fn ballot(rng: &mut Rng) -> Ballot {
+    Ballot { cast: [rng.chance(60), rng.chance(60)], answered: rng.chance(60), answer: rng.chance(50) }
+}
+
+fn head(rng: &mut Rng) -> (u8, u8) {
+    let (n, rule) = (rng.pick(&[1, 1, 2, 2, 3, 3, 4, 5, 8, 9, 16, 17, 31, 32]), rng.pick(&[1, 2]));
+    let any = rng.byte();
+    match rng.below(20) {
+        0 => (rng.pick(&[0, 33, 64, 255, any]), rule),
+        1 => (n, rng.pick(&[0, 3, 255, any])),
+        _ => (n, rule),
+    }
+}
+
+/// A record, sound or with one part at an edge, and what is played on it.
+fn made_up(rng: &mut Rng, script: &mut Script, counts: &mut Counts) {
+    let (n, rule) = head(rng);
+    call(script, counts, Command::Head { n, rule });
+    let stations = n.clamp(1, 31) + 1;
+    for s in 0..stations.min(32) {
+        let station = sound(rng, n, rule);
+        let station = if s < n { station } else { broken(rng, n, station) };
+        call(script, counts, Command::Station(s, station));
+    }
+    for b in 0..64 {
+        if rng.chance(if rule == 1 && b > 6 { 2 } else { 40 }) {
+            let ballot = ballot(rng);
+            call(script, counts, Command::Ballot(b, ballot));
+        }
+    }
+    for _ in 0..rng.below(3) * rng.below(2) {
+        let s = rng.byte() % stations.min(32);
+        let station = broken(rng, n, script.record.stations[usize::from(s)]);
+        call(script, counts, Command::Station(s, station));
+    }
+    play(rng, script, counts);
+}
+
+/// Any event around the ranges, most often a STEP.
+fn event(rng: &mut Rng, record: &Record) -> Event {
+    let n = usize::from(record.n);
+    let (any, near, edge) = (rng.byte(), rng.below(n.max(1)) as u8, rng.below(n + 2) as u8);
+    let s = rng.pick(&[near, near, near, near, near, near, edge, edge, any]);
+    let t = rng.pick(&[near, rng.clone().below(n.max(1)) as u8, edge]);
+    match rng.below(10) {
+        0 => Event::Claim { s, v: word(rng) },
+        1 => Event::Deliver { t, s },
+        2 => Event::Lose { s },
+        3 => Event::Answer {
+            b: rng.pick(&[0, 1, 2, 3, 4, 5, 6, 61, 62, 63, 64, any]),
+            a: rng.pick(&[0, 1, 0, 1, 2, any]),
+        },
+        _ => Event::Step { s },
+    }
+}
+
+fn play(rng: &mut Rng, script: &mut Script, counts: &mut Counts) {
+    for _ in 0..5 + rng.below(60) {
+        if script.record.is_faulty() && rng.chance(25) {
+            break;
+        }
+        let event = event(rng, &script.record);
+        let (b, near) = (rng.byte() % 64, rng.byte() % 8);
+        call(script, counts, Command::Event(event));
+        let s = match event {
+            Event::Claim { s, .. } | Event::Deliver { s, .. } | Event::Step { s } | Event::Lose { s } => s,
+            Event::Answer { b, .. } => {
+                call(script, counts, Command::ShowBallot(b % 64));
+                near
+            }
+        };
+        call(script, counts, Command::ShowStation(s % 32));
+        call(script, counts, Command::Look(s));
+        if rng.chance(20) {
+            call(script, counts, Command::ShowBallot(b));
+            call(script, counts, Command::ShowStation(near));
+        }
+    }
+    if rng.chance(60) {
+        script.show_record();
+    }
+}
+
+/// A settlement reached by RUN under some limit, played on.
+fn reached(rng: &mut Rng, script: &mut Script, counts: &mut Counts) {
+    let (n, rule) = (rng.pick(&[1, 2, 3, 4, 5, 17, 32]), rng.pick(&[1, 2]));
+    let play_from = crate::model::Play::open(n, rule).expect("a valid opening");
+    let mix = generate::mix(rng, n);
+    let events = generate::list(rng, play_from, &mix, 150);
+    let events = if rng.chance(70) { generate::accepted(n, rule, &events) } else { events };
+    let mut log = if rng.chance(50) { written(n, rule, &events) } else { generate::with_notes(rng, n, rule, &events) };
+    if rng.chance(20) {
+        log = generate::damaged(rng, &log);
+    }
+    log.truncate(3000);
+    let count = events.len() as u32;
+    let middle = rng.below(events.len() + 1) as u32;
+    let limit =
+        rng.pick(&[0, 1, 2, middle, middle, middle, count, count + 1, count.saturating_sub(1), 65_536, u32::MAX]);
+    call(script, counts, Command::Run { limit, log });
+    for s in 0..n {
+        call(script, counts, Command::Look(s));
+    }
+    script.show_record();
+    play(rng, script, counts);
+}
+
+/// BODY, READ, REST and lengths on any bytes, and OPEN with any numbers.
+fn parts(rng: &mut Rng, script: &mut Script, counts: &mut Counts) {
+    for _ in 0..20 {
+        let bytes = match rng.below(3) {
+            0 => generate::any_bytes(rng),
+            1 => field(rng),
+            _ => [field(rng), generate::any_bytes(rng)].concat(),
+        };
+        let cut = bytes.len() - rng.below(bytes.len().min(2) + 1);
+        let bytes = bytes[..cut].to_vec();
+        let any = rng.next() as u32;
+        let end = bytes.len() as u32;
+        let taken = rng.pick(&[0, 1, 2, end, end.saturating_sub(1), end + 1, any, u32::MAX]);
+        call(script, counts, Command::Read(bytes.clone()));
+        call(script, counts, Command::Body(bytes.clone()));
+        call(script, counts, Command::Rest { taken, log: bytes });
+        let claim = any >> rng.below(32);
+        call(script, counts, Command::Length(claim));
+    }
+    let (any, rule) = (rng.byte(), rng.byte());
+    call(
+        script,
+        counts,
+        Command::Open { n: rng.pick(&[0, 1, 2, 31, 32, 33, any]), rule: rng.pick(&[0, 1, 2, 3, rule]) },
+    );
+    script.show_record();
+}
+
+/// A field of any kind, its length at times not the table's.
+fn field(rng: &mut Rng) -> Vec<u8> {
+    let (x, y, v) = (rng.byte(), rng.byte(), rng.next() as u32);
+    let note = rng.pick(&[0, 1, 5, 63, 64, 65]);
+    let field = match rng.below(7) {
+        0 => Field::Opening { n: x, rule: y },
+        1 => Field::Event(Event::Claim { s: x, v }),
+        2 => Field::Event(Event::Deliver { t: x, s: y }),
+        3 => Field::Event(Event::Step { s: x }),
+        4 => Field::Event(Event::Lose { s: x }),
+        5 => Field::Event(Event::Answer { b: x, a: y }),
+        _ => Field::Note(rng.bytes(note)),
+    };
+    let mut bytes = field.bytes();
+    if rng.chance(20) {
+        let i = rng.below(3);
+        bytes[i] = rng.pick(&[0, 1, 2, 5, 6, 0x12, 0x30, 255]);
+    }
+    bytes
+}
