@@ -1,9 +1,12 @@
 // OPEN into a lent settlement and LOOK at a lent one, behind functions by value, as `lent::through` has the events.
 ghost use mathlib.Core.Path.{_≡_};
 ghost use Rattle.settlement.specs.Events.{opened};
+ghost use Rattle.settlement.specs.Look.{looked};
+use lent::opening::look_lent;
 use lent::opening::open_lent;
 use settlement::record::Outcome;
 use settlement::record::Settlement;
+use settlement::record::Standing;
 
 // OPEN n, rule, where r stood.
 pub fn open_through(r: Settlement, n: u8, rule: u8) -> Outcome
@@ -15,4 +18,12 @@ pub fn open_through(r: Settlement, n: u8, rule: u8) -> Outcome
         number,
         settlement: lent,
     }
+}
+
+// LOOK s at a copy that is lent.
+pub fn look_through(r: Settlement, s: u8) -> Standing
+    ensures { λ x. ⌜ x ≡ looked r s ⌝ }
+{
+    let lent = r;
+    look_lent(&lent, s)
 }

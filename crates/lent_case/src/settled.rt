@@ -1,11 +1,11 @@
 // OPEN, the five events and LOOK.
+use crate::lending::look_through;
 use crate::lending::open_through;
 use crate::print;
 use crate::script::byte;
 use crate::script::word;
 use event::event::Event;
 use lent::through::play_through;
-use settlement::look::look;
 use settlement::record::Outcome;
 use settlement::record::Settlement;
 use settlement::record::Standing;
@@ -54,5 +54,5 @@ fn standing(a: Standing) {
 
 // LOOK s: its number, whether decided, the claim and the votes.
 pub fn looks(s: u8, r: Settlement) {
-    standing(look(r, s));
+    standing(look_through(r, s));
 }
