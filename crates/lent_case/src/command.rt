@@ -9,6 +9,7 @@ use crate::made_up;
 use crate::parts;
 use crate::print;
 use crate::script::byte;
+use crate::script::word;
 use crate::settled;
 use crate::show;
 use settlement::record::Settlement;
@@ -36,19 +37,22 @@ fn reads(tag: u8, body: &[u8]) {
     }
 }
 
-// The settlement after the command.
-pub fn command(tag: u8, body: &[u8], r: Settlement) -> Settlement {
+// The settlement after the command, where its body begins with these numbers.
+fn changes(tag: u8, first: u8, second: u8, body: &[u8], r: Settlement) -> Settlement {
     match tag {
-        0x01 => settled::opens(body, r),
-        0x10..=0x14 => settled::plays(tag, body, r),
-        b'N' => made_up::with_head(byte(body, 0), byte(body, 1), r),
-        b'S' => made_up::with_station(body, r),
-        b'B' => made_up::with_ballot(byte(body, 0), byte(body, 1), r),
+        0x01 => settled::opens(first, second, r),
+        b'N' => made_up::with_head(first, second, r),
+        b'S' => made_up::with_station(first, body, r),
+        b'B' => made_up::with_ballot(first, second, r),
         b'r' => parts::runs(body),
-        _ => {
-            asks(tag, byte(body, 0), r);
-            reads(tag, body);
-            r
-        }
+        0x10..=0x14 => settled::plays(settled::event_of(tag, first, second, word(body, 1)), r),
+        _ => r,
     }
+}
+
+pub fn command(tag: u8, body: &[u8], r: Settlement) -> Settlement {
+    let first = byte(body, 0);
+    reads(tag, body);
+    asks(tag, first, r);
+    changes(tag, first, byte(body, 1), body, r)
 }

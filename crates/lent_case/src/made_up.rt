@@ -42,8 +42,8 @@ fn station_in(body: &[u8]) -> Station {
     }
 }
 
-pub fn with_station(body: &[u8], r: Settlement) -> Settlement {
-    let i = (byte(body, 0) % 32) as usize;
+pub fn with_station(s: u8, body: &[u8], r: Settlement) -> Settlement {
+    let i = (s % 32) as usize;
     let t = station_in(body);
     let mut next = r;
     next.stations[i] = t;
@@ -51,14 +51,18 @@ pub fn with_station(body: &[u8], r: Settlement) -> Settlement {
 }
 
 // The marks are the low bits of one number: 0 was cast, 1 was cast, it is answered, and the answer.
-pub fn with_ballot(b: u8, marks: u8, r: Settlement) -> Settlement {
-    let i = (b % 64) as usize;
-    let t = Ballot {
+fn ballot_of(marks: u8) -> Ballot {
+    Ballot {
         cast0: marks % 2 == 1,
         cast1: marks / 2 % 2 == 1,
         answered: marks / 4 % 2 == 1,
         answer: marks / 8 % 2 == 1,
-    };
+    }
+}
+
+pub fn with_ballot(b: u8, marks: u8, r: Settlement) -> Settlement {
+    let i = (b % 64) as usize;
+    let t = ballot_of(marks);
     let mut next = r;
     next.ballots[i] = t;
     next

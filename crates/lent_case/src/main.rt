@@ -19,12 +19,12 @@ fn play(script: &[u8]) {
     let mut r = opened.settlement;
     let mut at: usize = 0;
     while at < script.len() {
-        let end = script::end(script, at);
-        if end <= at {
+        let size = script::size(script, at);
+        if script.len() - at < size {
             return;
         }
-        r = command::command(script::byte(script, at), script::body(script, at, end), r);
-        at = end;
+        r = command::command(script::byte(script, at), script::body(script, at, size), r);
+        at += size;
     }
 }
 

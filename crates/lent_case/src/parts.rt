@@ -1,6 +1,5 @@
 // BODY, REST, READ, RUN and a claim's length.
 use crate::print;
-use crate::script::after;
 use crate::script::word;
 use bits::word::bit_length;
 use event::event::Event;
@@ -29,7 +28,7 @@ pub fn body_of(s: &[u8]) {
 
 // Before the log stands how much is taken.
 pub fn rest_of(s: &[u8]) {
-    part(rest(after(s, 4), word(s, 0) as usize));
+    part(rest(rest(s, 4), word(s, 0) as usize));
 }
 
 // A field's tag as document 01 has it, and its numbers; 0 where it has none.
@@ -77,7 +76,7 @@ fn counts(events: usize, taken: usize, status: u8) {
 
 // RUN: events, bytes taken and status; its settlement goes on. Before the log stands the limit.
 pub fn runs(s: &[u8]) -> Settlement {
-    let a = run(after(s, 4), word(s, 0) as usize);
+    let a = run(rest(s, 4), word(s, 0) as usize);
     counts(a.events, a.taken, a.status);
     a.settlement
 }

@@ -2,8 +2,6 @@
 use crate::lending::look_through;
 use crate::lending::open_through;
 use crate::print;
-use crate::script::byte;
-use crate::script::word;
 use event::event::Event;
 use lent::through::play_through;
 use settlement::record::Outcome;
@@ -16,12 +14,12 @@ fn goes_on(a: Outcome) -> Settlement {
     a.settlement
 }
 
-pub fn opens(body: &[u8], r: Settlement) -> Settlement {
-    goes_on(open_through(r, byte(body, 0), byte(body, 1)))
+pub fn opens(n: u8, rule: u8, r: Settlement) -> Settlement {
+    goes_on(open_through(r, n, rule))
 }
 
 // The event of a tag, its numbers in the order that a log has.
-fn event_of(tag: u8, first: u8, second: u8, v: u32) -> Event {
+pub fn event_of(tag: u8, first: u8, second: u8, v: u32) -> Event {
     match tag {
         0x10 => Event::Claim { s: first, v },
         0x11 => Event::Deliver {
@@ -37,12 +35,8 @@ fn event_of(tag: u8, first: u8, second: u8, v: u32) -> Event {
     }
 }
 
-fn event_in(tag: u8, body: &[u8]) -> Event {
-    event_of(tag, byte(body, 0), byte(body, 1), word(body, 1))
-}
-
-pub fn plays(tag: u8, body: &[u8], r: Settlement) -> Settlement {
-    goes_on(play_through(r, event_in(tag, body)))
+pub fn plays(e: Event, r: Settlement) -> Settlement {
+    goes_on(play_through(r, e))
 }
 
 fn standing(a: Standing) {

@@ -1,4 +1,4 @@
--- `lent_case::play` is safe and ends: command after command, and each goes on in the script. Assumes nothing.
+-- `lent_case::play` is safe and ends: command after command, each of three bytes or more. Assumes nothing.
 use Prim.Native.Nat.{_≤_, _-_}
 use lib.ListN.{length}
 use borrow.Author.Needs.{needs}
@@ -19,11 +19,13 @@ play-spec =
     μ-loop
     (λ open-requires κs. tt)
     (λ loop-holds. search needs)
-    (λ end-requires κs. tt)
+    (λ size-requires κs. tt)
+    (λ sub-if1. search needs)
     (λ returns. search needs)
     (λ byte-requires κs. tt)
-    (λ body-requires κs. tt)
+    (λ body-requires κs. search needs)
     (λ command-requires κs. tt)
+    (λ add-at. search needs)
     (λ loop-less. search needs)
     (λ loop-again. search needs)
     (λ returns-2. search needs))
