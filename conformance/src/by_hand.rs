@@ -64,7 +64,7 @@ impl Hand {
     }
 
     fn event(&mut self, event: Event, number: u8) {
-        self.call(Command::Event(event), &[number.into()]);
+        self.call(Command::Play(event), &[number.into()]);
     }
 
     /// LOOK's number, whether decided, claim and votes.
@@ -80,8 +80,8 @@ impl Hand {
     /// A record made up from nothing: n stations, a rule, and the entry of station s.
     fn made(&mut self, n: u8, rule: u8, s: u8, station: Station) {
         self.0.call(Command::Open { n: 1, rule: 1 });
-        self.make(Command::Head { n, rule });
-        self.make(Command::Station(s, station));
+        self.make(Command::MakeHead { n, rule });
+        self.make(Command::MakeStation(s, station));
     }
 
     /// Every event and LOOK of a faulty record give 42, and its entry stays.
@@ -138,7 +138,7 @@ impl Hand {
             (32, 2, 0),
         ] {
             self.made(32, 2, 0, Station { lost: true, cursor: 7, ..at(Decided, 9) });
-            self.make(Command::Ballot(0, Ballot { cast: [true; 2], answered: true, answer: true }));
+            self.make(Command::MakeBallot(0, Ballot { cast: [true; 2], answered: true, answer: true }));
             self.call(Command::Open { n, rule }, &[number]);
             let (n, rule) = if number == 0 { (n, rule) } else { (0, 1) };
             self.call(Command::ShowHead, &[n.into(), rule.into()]);
@@ -148,7 +148,7 @@ impl Hand {
         }
         self.heading("A record without stations has no ballots under either rule.");
         for rule in [1, 2] {
-            self.make(Command::Head { n: 0, rule });
+            self.make(Command::MakeHead { n: 0, rule });
             self.event(ANSWER, 9);
             for event in [CLAIM, DELIVER, STEP, LOSE] {
                 self.event(event, 1);
@@ -189,7 +189,7 @@ impl Hand {
     fn looks(&mut self) {
         self.heading("LOOK s. No station s: 1. A refusal gives undecided, 0, 0.");
         self.call(Command::Open { n: 5, rule: 2 }, &[0]);
-        self.make(Command::Station(5, at(Decided, 3)));
+        self.make(Command::MakeStation(5, at(Decided, 3)));
         for s in [5, 6, 31, 32, 255] {
             self.look(s, [1, 0, 0, 0]);
         }
@@ -315,20 +315,20 @@ impl Hand {
         let answered = |answer| Ballot { cast: [true; 2], answered: true, answer };
         self.made(2, 2, 0, last);
         self.event(STEP, 8);
-        self.make(Command::Ballot(63, answered(false)));
+        self.make(Command::MakeBallot(63, answered(false)));
         self.event(STEP, 42);
         self.show(0);
         self.look(0, [0, 0, 0, 64]);
         self.heading("lost goes before it; answer 1 decides; one ballot pair earlier, answer 0 goes on");
-        self.make(Command::Station(0, Station { lost: true, ..last }));
+        self.make(Command::MakeStation(0, Station { lost: true, ..last }));
         self.event(STEP, 2);
-        self.make(Command::Station(0, last));
-        self.make(Command::Ballot(63, answered(true)));
+        self.make(Command::MakeStation(0, last));
+        self.make(Command::MakeBallot(63, answered(true)));
         self.event(STEP, 0);
         self.look(0, [0, 1, 5, 64]);
         self.call(Command::ShowStation(0), &[7, 0, 0, 31, 1, 5, 5, 5]);
-        self.make(Command::Station(0, Station { round: 30, ..last }));
-        self.make(Command::Ballot(61, answered(false)));
+        self.make(Command::MakeStation(0, Station { round: 30, ..last }));
+        self.make(Command::MakeBallot(61, answered(false)));
         self.event(STEP, 0);
         self.call(Command::ShowStation(0), &[2, 0, 0, 31, 1, 5, 5, 3]);
     }
@@ -404,7 +404,7 @@ impl Hand {
             self.heading(words);
             self.made(4, rule, 0, Station { stage, ..full });
             self.event(STEP, 8);
-            self.make(Command::Ballot(b, Ballot { answer, ..all }));
+            self.make(Command::MakeBallot(b, Ballot { answer, ..all }));
             self.event(STEP, 0);
             self.call(Command::ShowStation(0), &after);
             self.call(Command::ShowBallot(b), &[1, 1, 1, answer.into()]);
@@ -439,7 +439,7 @@ impl Hand {
         self.event(DELIVER, 4);
         self.event(CLAIM, 0);
         self.event(DELIVER, 5);
-        self.make(Command::Ballot(0, Ballot { cast: [false; 2], answered: true, answer: false }));
+        self.make(Command::MakeBallot(0, Ballot { cast: [false; 2], answered: true, answer: false }));
         self.event(Event::Answer { b: 0, a: 2 }, 10);
         self.event(Event::Answer { b: 0, a: 1 }, 11);
         self.event(ANSWER, 11);

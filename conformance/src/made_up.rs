@@ -41,7 +41,7 @@ fn last(answer: &str) -> usize {
 fn call(script: &mut Script, counts: &mut Counts, command: Command) {
     let answer = script.call(command.clone());
     match command {
-        Command::Event(_) => *counts.events.entry(first(&answer)).or_default() += 1,
+        Command::Play(_) => *counts.events.entry(first(&answer)).or_default() += 1,
         Command::Look(_) => *counts.looks.entry(first(&answer)).or_default() += 1,
         Command::Run { .. } => *counts.runs.entry(last(&answer)).or_default() += 1,
         _ => {}
@@ -109,23 +109,23 @@ fn head(rng: &mut Rng) -> (u8, u8) {
 /// A record, sound or with one part at an edge, and what is played on it.
 fn made_up(rng: &mut Rng, script: &mut Script, counts: &mut Counts) {
     let (n, rule) = head(rng);
-    call(script, counts, Command::Head { n, rule });
+    call(script, counts, Command::MakeHead { n, rule });
     let stations = n.clamp(1, 31) + 1;
     for s in 0..stations.min(32) {
         let station = sound(rng, n, rule);
         let station = if s < n { station } else { broken(rng, n, station) };
-        call(script, counts, Command::Station(s, station));
+        call(script, counts, Command::MakeStation(s, station));
     }
     for b in 0..64 {
         if rng.chance(if rule == 1 && b > 6 { 2 } else { 40 }) {
             let ballot = ballot(rng);
-            call(script, counts, Command::Ballot(b, ballot));
+            call(script, counts, Command::MakeBallot(b, ballot));
         }
     }
     for _ in 0..rng.below(3) * rng.below(2) {
         let s = rng.byte() % stations.min(32);
         let station = broken(rng, n, script.record.stations[usize::from(s)]);
-        call(script, counts, Command::Station(s, station));
+        call(script, counts, Command::MakeStation(s, station));
     }
     play(rng, script, counts);
 }
@@ -136,11 +136,11 @@ fn event(rng: &mut Rng, record: &Record) -> Event {
     let (any, near, edge) = (rng.byte(), rng.below(n.max(1)) as u8, rng.below(n + 2) as u8);
     let s = rng.pick(&[near, near, near, near, near, near, edge, edge, any]);
     let t = rng.pick(&[near, rng.clone().below(n.max(1)) as u8, edge]);
-    match rng.below(10) {
-        0 => Event::Claim { s, v: word(rng) },
-        1 => Event::Deliver { t, s },
-        2 => Event::Lose { s },
-        3 => Event::Answer {
+    match rng.below(20) {
+        0 | 1 => Event::Claim { s, v: word(rng) },
+        2..=4 => Event::Deliver { t, s },
+        5 => Event::Lose { s },
+        6..=8 => Event::Answer {
             b: rng.pick(&[0, 1, 2, 3, 4, 5, 6, 61, 62, 63, 64, any]),
             a: rng.pick(&[0, 1, 0, 1, 2, any]),
         },
@@ -155,7 +155,7 @@ fn play(rng: &mut Rng, script: &mut Script, counts: &mut Counts) {
         }
         let event = event(rng, &script.record);
         let (b, near) = (rng.byte() % 64, rng.byte() % 8);
-        call(script, counts, Command::Event(event));
+        call(script, counts, Command::Play(event));
         let s = match event {
             Event::Claim { s, .. } | Event::Deliver { s, .. } | Event::Step { s } | Event::Lose { s } => s,
             Event::Answer { b, .. } => {

@@ -12,15 +12,15 @@ pub enum Command {
         n: u8,
         rule: u8,
     },
-    Event(Event),
+    Play(Event),
     Look(u8),
     /// Made up: the number of stations and the rule, a station's entry, a ballot's.
-    Head {
+    MakeHead {
         n: u8,
         rule: u8,
     },
-    Station(u8, Station),
-    Ballot(u8, Ballot),
+    MakeStation(u8, Station),
+    MakeBallot(u8, Ballot),
     ShowHead,
     ShowStation(u8),
     ShowBallot(u8),
@@ -80,11 +80,11 @@ impl Command {
     pub fn bytes(&self) -> Vec<u8> {
         match self {
             Open { n, rule } => Field::Opening { n: *n, rule: *rule }.bytes(),
-            Event(event) => Field::Event(*event).bytes(),
+            Play(event) => Field::Event(*event).bytes(),
             Look(s) => framed(b'K', &[*s]),
-            Head { n, rule } => framed(b'N', &[*n, *rule]),
-            Station(s, station) => framed(b'S', &entry_bytes(*s, station)),
-            Ballot(b, ballot) => framed(b'B', &[*b, marks_number(ballot)]),
+            MakeHead { n, rule } => framed(b'N', &[*n, *rule]),
+            MakeStation(s, station) => framed(b'S', &entry_bytes(*s, station)),
+            MakeBallot(b, ballot) => framed(b'B', &[*b, marks_number(ballot)]),
             ShowHead => framed(b'H', &[]),
             ShowStation(s) => framed(b'E', &[*s]),
             ShowBallot(b) => framed(b'V', &[*b]),
@@ -100,11 +100,11 @@ impl Command {
     pub fn words(&self) -> String {
         match self {
             Open { n, rule } => format!("open {n} {rule}"),
-            Event(event) => event_words(*event),
+            Play(event) => event_words(*event),
             Look(s) => format!("look {s}"),
-            Head { n, rule } => format!("made up: stations {n} rule {rule}"),
-            Station(s, station) => format!("made up: station {s}{}", station_words(station)),
-            Ballot(b, ballot) => format!("made up: ballot {b}{}", row(&ballot_numbers(ballot))),
+            MakeHead { n, rule } => format!("made up: stations {n} rule {rule}"),
+            MakeStation(s, station) => format!("made up: station {s}{}", station_words(station)),
+            MakeBallot(b, ballot) => format!("made up: ballot {b}{}", row(&ballot_numbers(ballot))),
             ShowHead => "head".to_string(),
             ShowStation(s) => format!("station {s}"),
             ShowBallot(b) => format!("ballot {b}"),
@@ -124,20 +124,20 @@ impl Command {
                 *record = opened;
                 row(&[number.into()])
             }
-            Event(event) => row(&[record.event(*event).into()]),
+            Play(event) => row(&[record.event(*event).into()]),
             Look(s) => {
                 let look = record.look(*s);
                 row(&[look.number.into(), look.decided.into(), look.claim.into(), look.votes.into()])
             }
-            Head { n, rule } => {
+            MakeHead { n, rule } => {
                 (record.n, record.rule) = (*n, *rule);
                 String::new()
             }
-            Station(s, station) => {
+            MakeStation(s, station) => {
                 record.stations[usize::from(*s)] = *station;
                 String::new()
             }
-            Ballot(b, ballot) => {
+            MakeBallot(b, ballot) => {
                 record.ballots[usize::from(*b)] = *ballot;
                 String::new()
             }
@@ -155,11 +155,11 @@ impl Command {
 
 fn event_words(event: Event) -> String {
     match event {
-        self::Event::Claim { s, v } => format!("claim {s} {v}"),
-        self::Event::Deliver { t, s } => format!("deliver {t} {s}"),
-        self::Event::Step { s } => format!("step {s}"),
-        self::Event::Lose { s } => format!("lose {s}"),
-        self::Event::Answer { b, a } => format!("answer {b} {a}"),
+        Event::Claim { s, v } => format!("claim {s} {v}"),
+        Event::Deliver { t, s } => format!("deliver {t} {s}"),
+        Event::Step { s } => format!("step {s}"),
+        Event::Lose { s } => format!("lose {s}"),
+        Event::Answer { b, a } => format!("answer {b} {a}"),
     }
 }
 
@@ -192,10 +192,10 @@ fn read(bytes: &[u8]) -> String {
     };
     let (first, second, claim) = match field {
         Field::Opening { n, rule } => (n, rule, 0),
-        Field::Event(self::Event::Claim { s, v }) => (s, 0, v),
-        Field::Event(self::Event::Deliver { t, s }) => (t, s, 0),
-        Field::Event(self::Event::Step { s } | self::Event::Lose { s }) => (s, 0, 0),
-        Field::Event(self::Event::Answer { b, a }) => (b, a, 0),
+        Field::Event(Event::Claim { s, v }) => (s, 0, v),
+        Field::Event(Event::Deliver { t, s }) => (t, s, 0),
+        Field::Event(Event::Step { s } | Event::Lose { s }) => (s, 0, 0),
+        Field::Event(Event::Answer { b, a }) => (b, a, 0),
         Field::Note(_) => (0, 0, 0),
     };
     row(&[field.tag().into(), first.into(), second.into(), claim.into(), taken as u64])
@@ -243,8 +243,9 @@ impl Script {
 
     /// One command on a line of its own, and the answer by document 01.
     pub fn call(&mut self, command: Command) -> String {
-        let words = if self.named { command.words() + ":" } else { String::new() };
-        self.say(&(words + ""));
+        if self.named {
+            self.say(&format!("{}:", command.words()));
+        }
         let before = self.record.clone();
         self.bytes.extend(command.bytes());
         let answer = command.answer(&mut self.record);
