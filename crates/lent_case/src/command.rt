@@ -12,6 +12,8 @@ use crate::script::byte;
 use crate::script::word;
 use crate::settled;
 use crate::show;
+use bits::word::bit_length;
+use log::rest::rest;
 use settlement::record::Settlement;
 
 // What only asks the settlement.
@@ -29,10 +31,10 @@ fn asks(tag: u8, first: u8, r: Settlement) {
 fn reads(tag: u8, body: &[u8]) {
     match tag {
         0x30 => print::text(body),
-        b'b' => parts::body_of(body),
+        b'b' => print::part(field::body::body(body)),
         b'd' => parts::read_of(body),
-        b't' => parts::rest_of(body),
-        b'l' => parts::length(body),
+        b't' => print::part(rest(rest(body, 4), word(body, 0) as usize)),
+        b'l' => print::number(bit_length(word(body, 0)) as u64),
         _ => {}
     }
 }

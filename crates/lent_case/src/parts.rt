@@ -1,9 +1,7 @@
-// BODY, REST, READ, RUN and a claim's length.
+// READ and RUN.
 use crate::print;
 use crate::script::word;
-use bits::word::bit_length;
 use event::event::Event;
-use field::body::body;
 use field::field::Field;
 use field::read::Reading;
 use field::read::read;
@@ -11,32 +9,12 @@ use log::rest::rest;
 use log::run::run;
 use settlement::record::Settlement;
 
-pub fn length(s: &[u8]) {
-    print::small(bit_length(word(s, 0)));
-}
-
-// A part of a slice: how many bytes, and which.
-fn part(s: &[u8]) {
-    print::number(s.len() as u64);
-    print::text(b" ");
-    print::bytes(s);
-}
-
-pub fn body_of(s: &[u8]) {
-    part(body(s));
-}
-
-// Before the log stands how much is taken.
-pub fn rest_of(s: &[u8]) {
-    part(rest(rest(s, 4), word(s, 0) as usize));
-}
-
 // A field's tag as document 01 has it, and its numbers; 0 where it has none.
 fn tagged(tag: u8, first: u8, second: u8, claim: u32) {
-    print::small(tag);
-    print::small(first);
-    print::small(second);
-    print::claim(claim);
+    print::number(tag as u64);
+    print::number(first as u64);
+    print::number(second as u64);
+    print::number(claim as u64);
 }
 
 fn event(e: Event) {
@@ -64,19 +42,15 @@ pub fn read_of(s: &[u8]) {
             field(f);
             print::number(taken as u64);
         }
-        Reading::Refused { number } => print::small(number),
+        Reading::Refused { number } => print::number(number as u64),
     }
-}
-
-fn counts(events: usize, taken: usize, status: u8) {
-    print::number(events as u64);
-    print::number(taken as u64);
-    print::small(status);
 }
 
 // RUN: events, bytes taken and status; its settlement goes on. Before the log stands the limit.
 pub fn runs(s: &[u8]) -> Settlement {
     let a = run(rest(s, 4), word(s, 0) as usize);
-    counts(a.events, a.taken, a.status);
+    print::number(a.events as u64);
+    print::number(a.taken as u64);
+    print::number(a.status as u64);
     a.settlement
 }

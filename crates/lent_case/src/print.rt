@@ -11,29 +11,22 @@ pub fn number(n: u64) {
     io::print_decimal(STDOUT_FILENO, n);
 }
 
-pub fn small(n: u8) {
-    number(n as u64);
-}
-
-// A claim, or a mask of stations.
-pub fn claim(n: u32) {
-    number(n as u64);
-}
-
-// 1 where the mark stands.
-pub fn mark(b: bool) {
-    number(b as u64);
-}
-
 fn byte(x: u8) {
     io::print_hex(STDOUT_FILENO, x as u64, 2);
 }
 
 // Each byte as two hexadecimal digits.
-pub fn bytes(s: &[u8]) {
+fn bytes(s: &[u8]) {
     let mut i: usize = 0;
     while i < s.len() {
         byte(s[i]);
         i += 1;
     }
+}
+
+// A part of a slice: how many bytes, and which.
+pub fn part(s: &[u8]) {
+    number(s.len() as u64);
+    text(b" ");
+    bytes(s);
 }

@@ -1,5 +1,5 @@
 // Commands and numbers in a script's bytes: tag, two-byte length and body, as a field of a log. A byte past the end is 0.
-ghost use Prim.Native.Nat.{_+_, _<_, _≤_};
+ghost use Prim.Native.Nat.{_+_, _≤_};
 ghost use lib.ListN.{length};
 use log::rest::rest;
 
@@ -7,18 +7,14 @@ pub fn byte(s: &[u8], i: usize) -> u8 {
     if i < s.len() { s[i] } else { 0 }
 }
 
-fn place(x: u8) -> usize
-    ensures { λ r. ⌜ r < 256 ⌝ }
-{
-    x as usize
-}
-
 // The bytes of the command at a place: a head of three, and as many as it says.
 pub fn size(s: &[u8], at: usize) -> usize
     ensures { λ r. ⌜ 3 ≤ r ⌝ }
 {
     let command = rest(s, at);
-    3 + 256 * place(byte(command, 1)) + place(byte(command, 2))
+    let high = byte(command, 1);
+    let low = byte(command, 2);
+    3 + 256 * (high as usize) + (low as usize)
 }
 
 // The body of a command of so many bytes at a place.
@@ -31,15 +27,12 @@ pub fn body(s: &[u8], at: usize, size: usize) -> &[u8]
     &s[start..end]
 }
 
-fn wide(x: u8) -> u32 {
-    x as u32
-}
-
 // Four bytes from i on, high byte first.
 pub fn word(s: &[u8], i: usize) -> u32 {
     let from = rest(s, i);
-    wide(byte(from, 0)) << 24
-        | wide(byte(from, 1)) << 16
-        | wide(byte(from, 2)) << 8
-        | wide(byte(from, 3))
+    let a = byte(from, 0);
+    let b = byte(from, 1);
+    let c = byte(from, 2);
+    let d = byte(from, 3);
+    (a as u32) << 24 | (b as u32) << 16 | (c as u32) << 8 | (d as u32)
 }
