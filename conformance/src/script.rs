@@ -96,23 +96,23 @@ impl Command {
         }
     }
 
-    /// What is called, in words.
+    /// What is called, in words; a colon where an answer follows.
     pub fn words(&self) -> String {
         match self {
-            Open { n, rule } => format!("open {n} {rule}"),
-            Play(event) => event_words(*event),
-            Look(s) => format!("look {s}"),
+            Open { n, rule } => format!("open {n} {rule}:"),
+            Play(event) => format!("{}:", event_words(*event)),
+            Look(s) => format!("look {s}:"),
             MakeHead { n, rule } => format!("made up: stations {n} rule {rule}"),
             MakeStation(s, station) => format!("made up: station {s}{}", station_words(station)),
             MakeBallot(b, ballot) => format!("made up: ballot {b}{}", row(&ballot_numbers(ballot))),
-            ShowHead => "head".to_string(),
-            ShowStation(s) => format!("station {s}"),
-            ShowBallot(b) => format!("ballot {b}"),
-            Body(bytes) => format!("body of{}", part(bytes)),
-            Read(bytes) => format!("read{}", part(bytes)),
-            Rest { taken, log } => format!("rest past {taken} of{}", part(log)),
-            Run { limit, .. } => format!("run with limit {limit}"),
-            Length(v) => format!("length of {v}"),
+            ShowHead => "head:".to_string(),
+            ShowStation(s) => format!("station {s}:"),
+            ShowBallot(b) => format!("ballot {b}:"),
+            Body(bytes) => format!("body of{}:", part(bytes)),
+            Read(bytes) => format!("read{}:", part(bytes)),
+            Rest { taken, log } => format!("rest past {taken} of{}:", part(log)),
+            Run { limit, .. } => format!("run with limit {limit}:"),
+            Length(v) => format!("length of {v}:"),
         }
     }
 
@@ -244,7 +244,7 @@ impl Script {
     /// One command on a line of its own, and the answer by document 01.
     pub fn call(&mut self, command: Command) -> String {
         if self.named {
-            self.say(&format!("{}:", command.words()));
+            self.say(&command.words());
         }
         let before = self.record.clone();
         self.bytes.extend(command.bytes());
