@@ -34,7 +34,7 @@ fn reads(tag: u8, body: &[u8]) {
         b'b' => print::part(field::body::body(body)),
         b'd' => parts::read_of(body),
         b't' => print::part(rest(rest(body, 4), word(body, 0) as usize)),
-        b'l' => print::number(bit_length(word(body, 0)) as u64),
+        b'l' => print::small(bit_length(word(body, 0))),
         _ => {}
     }
 }

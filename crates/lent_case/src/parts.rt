@@ -11,10 +11,10 @@ use settlement::record::Settlement;
 
 // A field's tag as document 01 has it, and its numbers; 0 where it has none.
 fn tagged(tag: u8, first: u8, second: u8, claim: u32) {
-    print::number(tag as u64);
-    print::number(first as u64);
-    print::number(second as u64);
-    print::number(claim as u64);
+    print::small(tag);
+    print::small(first);
+    print::small(second);
+    print::claim(claim);
 }
 
 fn event(e: Event) {
@@ -42,15 +42,19 @@ pub fn read_of(s: &[u8]) {
             field(f);
             print::number(taken as u64);
         }
-        Reading::Refused { number } => print::number(number as u64),
+        Reading::Refused { number } => print::small(number),
     }
+}
+
+fn counts(events: usize, taken: usize, status: u8) {
+    print::number(events as u64);
+    print::number(taken as u64);
+    print::small(status);
 }
 
 // RUN: events, bytes taken and status; its settlement goes on. Before the log stands the limit.
 pub fn runs(s: &[u8]) -> Settlement {
     let a = run(rest(s, 4), word(s, 0) as usize);
-    print::number(a.events as u64);
-    print::number(a.taken as u64);
-    print::number(a.status as u64);
+    counts(a.events, a.taken, a.status);
     a.settlement
 }

@@ -11,6 +11,20 @@ pub fn number(n: u64) {
     io::print_decimal(STDOUT_FILENO, n);
 }
 
+pub fn small(n: u8) {
+    number(n as u64);
+}
+
+// A claim, or a mask of stations.
+pub fn claim(n: u32) {
+    number(n as u64);
+}
+
+// 1 where the mark stands.
+pub fn mark(b: bool) {
+    number(b as u64);
+}
+
 fn byte(x: u8) {
     io::print_hex(STDOUT_FILENO, x as u64, 2);
 }

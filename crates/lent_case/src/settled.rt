@@ -10,7 +10,7 @@ use settlement::record::Standing;
 
 // The number is written, and the settlement goes on.
 fn goes_on(a: Outcome) -> Settlement {
-    print::number(a.number as u64);
+    print::small(a.number);
     a.settlement
 }
 
@@ -40,10 +40,10 @@ pub fn plays(e: Event, r: Settlement) -> Settlement {
 }
 
 fn standing(a: Standing) {
-    print::number(a.number as u64);
-    print::number(a.decided as u64);
-    print::number(a.claim as u64);
-    print::number(a.votes as u64);
+    print::small(a.number);
+    print::mark(a.decided);
+    print::claim(a.claim);
+    print::small(a.votes);
 }
 
 // LOOK s: its number, whether decided, the claim and the votes.

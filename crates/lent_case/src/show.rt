@@ -7,21 +7,21 @@ use settlement::record::Settlement;
 
 // The number of stations, and the rule.
 pub fn head(r: Settlement) {
-    print::number(r.count as u64);
-    print::number(r.rule as u64);
+    print::small(r.count);
+    print::small(r.rule);
 }
 
 // The stage's place in document 01's order, from idle, 0, to decided, 7; lost; cursor, round; held, claim, word and decision.
 fn station_entry(t: Station) {
     let stage = t.stage;
-    print::number(rank(stage) as u64);
-    print::number(t.lost as u64);
-    print::number(t.cursor as u64);
-    print::number(t.round as u64);
-    print::number(t.held as u64);
-    print::number(t.claim as u64);
-    print::number(t.word as u64);
-    print::number(t.decision as u64);
+    print::small(rank(stage));
+    print::mark(t.lost);
+    print::small(t.cursor);
+    print::small(t.round);
+    print::claim(t.held);
+    print::claim(t.claim);
+    print::claim(t.word);
+    print::claim(t.decision);
 }
 
 pub fn station(s: u8, r: Settlement) {
@@ -31,10 +31,10 @@ pub fn station(s: u8, r: Settlement) {
 
 // Whether 0 was cast, 1 was cast, it is answered, and the answer.
 fn ballot_entry(t: Ballot) {
-    print::number(t.cast0 as u64);
-    print::number(t.cast1 as u64);
-    print::number(t.answered as u64);
-    print::number(t.answer as u64);
+    print::mark(t.cast0);
+    print::mark(t.cast1);
+    print::mark(t.answered);
+    print::mark(t.answer);
 }
 
 pub fn ballot(b: u8, r: Settlement) {
