@@ -146,6 +146,10 @@ impl Hand {
             self.call(Command::ShowBallot(0), &[0; 4]);
             self.look(0, if number == 0 { [0; 4] } else { [1, 0, 0, 0] });
         }
+        self.no_stations();
+    }
+
+    fn no_stations(&mut self) {
         self.heading("A record without stations has no ballots under either rule.");
         for rule in [1, 2] {
             self.make(Command::MakeHead { n: 0, rule });
@@ -345,6 +349,11 @@ impl Hand {
             self.event(LOSE, 0);
             self.call(Command::ShowStation(0), &[1, 1, 1, 1, 255, 42, 240, 77]);
         }
+        self.steps(full);
+        self.takes(full);
+    }
+
+    fn steps(&mut self, full: Station) {
         let at = |stage| Station { stage, ..full };
         self.step_of(
             1,
@@ -383,7 +392,6 @@ impl Hand {
             "otherwise adds 1 to k and is voting",
         );
         self.step_of(2, at(Seeking), [5, 0, 2, 1, 255, 6, 240, 77], "rule 2 is voting on ballot 2k+1");
-        self.takes(full);
     }
 
     fn step_of(&mut self, rule: u8, station: Station, after: [u64; 8], words: &str) {
@@ -540,6 +548,10 @@ impl Hand {
             self.show(1);
             self.0.call(Command::ShowBallot(0));
         }
+        self.stops();
+    }
+
+    fn stops(&mut self) {
         self.heading(
             "the limit goes before READ's numbers and 25; nothing left goes before the limit; OPEN's numbers and 24",
         );
