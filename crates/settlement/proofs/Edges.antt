@@ -12,8 +12,12 @@ use Rattle.basics.specs.Tests.{first-met}
 use Rattle.event.specs.Step.{started, bit-taken, finish-taken, found, sought, stepped, voted}
 use Rattle.event.specs.Change.{own-after, ballot-after}
 use Rattle.settlement.specs.Look.{votes, looked}
-use Rattle.settlement.specs.Edges.{right, edges}
+use Rattle.settlement.specs.Edges.{right, edges, wrong, not-right}
 
 pub edges-right : every right edges ≡ true
 unfolding bit binaryDigits digitsIn withBit wordWithBit lowAgree member insert ceilLog2 leastFrom any-below station-fault fault first-met own-after ballot-after voted number started bit-taken finish-taken found sought stepped outcome effect opened played votes looked
 edges-right = refl
+
+pub wrong-told : every not-right wrong ≡ true
+unfolding bit binaryDigits digitsIn withBit wordWithBit lowAgree member insert ceilLog2 leastFrom any-below station-fault fault first-met own-after ballot-after voted number started bit-taken finish-taken found sought stepped outcome effect opened played votes looked
+wrong-told = refl

@@ -1,7 +1,7 @@
 -- Edges, as one list of rows with literal numbers (document 01, "Operations and what they turn away"): a row is a record, made up mostly, an operation
 -- and what it answers or leaves. The entries are odd on purpose: no two fields have the same number, so a field that moves is seen. Assumes nothing.
 use Prim.Native.Nat.{ℕ}
-use mathlib.Core.Bool.{Bool, true, false, _&&_, Bool·beq}
+use mathlib.Core.Bool.{Bool, true, false, not, _&&_, Bool·beq}
 use mathlib.Core.List.{List, [], _∷_, _++_}
 use lib.Dec.{eqb}
 use Rattle.consensus.specs.Events.{Event, claim, deliver, step, lose, answer}
@@ -248,3 +248,29 @@ entries-after =
 
 abbrev pub edges : List Row
 edges = opening ++ record-test ++ test-first ++ looking ++ entries-after
+
+-- ---- rows that are wrong in one number or mark: each is told
+
+abbrev idle-31 : Settlement
+idle-31 = made-up 32 1 31 (live Idle 5 6 4 3 9 11)
+
+abbrev cast-1 : Settlement
+cast-1 = at-ballot 1 2 0 (live Awaiting 5 6 0 3 9 11) 0 (marks false true false false)
+
+abbrev decided-31 : Settlement
+decided-31 = made-up 32 2 31 (live Decided 5 6 4 3 9 11)
+
+abbrev pub wrong : List Row
+wrong =
+    opens 1 2 40 1 2 ∷ opens 1 2 0 0 2 ∷ opens 1 2 0 1 1 ∷ gives (fresh 1 2) (step 0) 0
+    ∷ leaves idle-31 (lose 31) 31 (lost Waiting 5 6 4 3 9 11) ∷ leaves idle-31 (lose 31) 31 (live Idle 5 6 4 3 9 11)
+    ∷ leaves idle-31 (lose 31) 31 (lost Idle 4 6 4 3 9 11) ∷ leaves idle-31 (lose 31) 31 (lost Idle 5 7 4 3 9 11)
+    ∷ leaves idle-31 (lose 31) 31 (lost Idle 5 6 5 3 9 11) ∷ leaves idle-31 (lose 31) 31 (lost Idle 5 6 4 2 9 11)
+    ∷ leaves idle-31 (lose 31) 31 (lost Idle 5 6 4 3 8 11) ∷ leaves idle-31 (lose 31) 31 (lost Idle 5 6 4 3 9 12)
+    ∷ leaves-ballot cast-1 (answer 0 1) 0 (marks true true true true) ∷ leaves-ballot cast-1 (answer 0 1) 0 (marks false false true true)
+    ∷ leaves-ballot cast-1 (answer 0 1) 0 (marks false true false true) ∷ leaves-ballot cast-1 (answer 0 1) 0 (marks false true true false)
+    ∷ shows decided-31 31 1 true 11 8 ∷ shows decided-31 31 0 false 11 8 ∷ shows decided-31 31 0 true 6 8 ∷ shows decided-31 31 0 true 11 7
+    ∷ []
+
+abbrev pub not-right : Row → Bool
+not-right row = not (right row)
