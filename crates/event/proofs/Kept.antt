@@ -44,8 +44,8 @@ held-grows i t mask m = by-bool (eqb i t) (λ p. same (eqb-true i t p)) (λ p. m
 claim-kept : (v : View) (s c : ℕ) → number-on v (claim s c) ≡ 0 → Kept v (claim s c)
 unfolding first-met own-after ballot-after
 claim-kept v s c e =
-    let lives = refused-not (v .own .lost) 2 _ refl (refused-not (no-station (v .count) s) 1 _ refl e .1) in
-    let idle = refused-not (not-idle (v .own .stage)) 3 0 refl (lives .1) .0 in
+    let lives = refused-not (v .own .lost) _ _ refl (refused-not (no-station (v .count) s) _ _ refl e .1) in
+    let idle = refused-not (not-idle (v .own .stage)) _ 0 refl (lives .1) .0 in
     record {
       lost = λ p. no-clash (v .own .lost) p (lives .0);
       put-in = λ p. refl;
@@ -62,7 +62,7 @@ claim-kept v s c e =
 deliver-kept : (v : View) (t s : ℕ) → number-on v (deliver t s) ≡ 0 → Kept v (deliver t s)
 unfolding first-met own-after ballot-after
 deliver-kept v t s e =
-    let lives = refused-not (v .own .lost) 2 _ refl (refused-not (no-station (v .count) t || no-station (v .count) s) 1 _ refl e .1) .0 in
+    let lives = refused-not (v .own .lost) _ _ refl (refused-not (no-station (v .count) t || no-station (v .count) s) _ _ refl e .1) .0 in
     record {
       lost = λ p. no-clash (v .own .lost) p lives;
       put-in = λ p. p;
@@ -79,7 +79,7 @@ deliver-kept v t s e =
 lose-kept : (v : View) (s : ℕ) → number-on v (lose s) ≡ 0 → Kept v (lose s)
 unfolding first-met own-after ballot-after
 lose-kept v s e =
-    let lives = refused-not (v .own .lost) 2 _ refl (refused-not (no-station (v .count) s) 1 _ refl e .1) .0 in
+    let lives = refused-not (v .own .lost) _ _ refl (refused-not (no-station (v .count) s) _ _ refl e .1) .0 in
     record {
       lost = λ p. no-clash (v .own .lost) p lives;
       put-in = λ p. p;
@@ -100,8 +100,8 @@ answer-cast t x false p = p
 answer-kept : (v : View) (b a : ℕ) → number-on v (answer b a) ≡ 0 → Kept v (answer b a)
 unfolding first-met own-after ballot-after
 answer-kept v b a e =
-    let first = refused-not (not (ltb b (ballots (v .count) (v .rule)))) 9 _ refl e .1 in
-    let open-yet = refused-not (v .ballot .answered) 11 _ refl (refused-not (ltb 1 a) 10 _ refl first .1) .0 in
+    let first = refused-not (not (ltb b (ballots (v .count) (v .rule)))) _ _ refl e .1 in
+    let open-yet = refused-not (v .ballot .answered) _ _ refl (refused-not (ltb 1 a) _ _ refl first .1) .0 in
     record {
       lost = λ p. refl;
       put-in = λ p. p;
@@ -163,9 +163,9 @@ marked v g =
 step-kept : (v : View) (s : ℕ) → number-on v (step s) ≡ 0 → Kept v (step s)
 unfolding first-met own-after ballot-after
 step-kept v s e =
-    let lives = refused-not (v .own .lost) 2 _ refl (refused-not (no-station (v .count) s) 1 _ refl e .1) in
-    let late = refused-not (not (not-idle (v .own .stage))) 6 _ refl (lives .1) in
-    let under-way = refused-not (is-decided (v .own .stage)) 7 _ refl (late .1) .0 in
+    let lives = refused-not (v .own .lost) _ _ refl (refused-not (no-station (v .count) s) _ _ refl e .1) in
+    let late = refused-not (not (not-idle (v .own .stage))) _ _ refl (lives .1) in
+    let under-way = refused-not (is-decided (v .own .stage)) _ _ refl (late .1) .0 in
     let on = onward v s (v .own .stage) refl (not-false→true (not-idle (v .own .stage)) (late .0)) in
     let marks = marked v (v .own .stage) in
     record {

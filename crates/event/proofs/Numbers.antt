@@ -100,19 +100,19 @@ nobody v a small = go (eqb a 1) refl
 pub numbers : Numbers
 unfolding first-met Number-is
 numbers v (claim s c) =
-    met _ 1 _ _ (past (v .count) s) refl (λ p1 e1. met _ 2 _ _ (is (v .own .lost)) e1 (λ p2 e2. met _ 3 0 _ (tells-not (at Idle (v .own .stage)) (told-apart Idle (v .own .stage))) e2 (λ p3 e3. e3)))
+    met _ _ _ _ (past (v .count) s) refl (λ p1 e1. met _ _ _ _ (is (v .own .lost)) e1 (λ p2 e2. met _ _ 0 _ (tells-not (at Idle (v .own .stage)) (told-apart Idle (v .own .stage))) e2 (λ p3 e3. e3)))
 numbers v (deliver t s) =
-    met _ 1 _ _ (tells-or _ _ (past (v .count) t) (past (v .count) s)) refl
-    (λ p1 e1. met _ 2 _ _ (is (v .own .lost)) e1
-    (λ p2 e2. met _ 4 _ _ (idle (v .beside .stage)) e2 (λ p3 e3. met _ 5 0 _ (is (member t (v .own .held))) e3 (λ p4 e4. e4))))
+    met _ _ _ _ (tells-or _ _ (past (v .count) t) (past (v .count) s)) refl
+    (λ p1 e1. met _ _ _ _ (is (v .own .lost)) e1
+    (λ p2 e2. met _ _ _ _ (idle (v .beside .stage)) e2 (λ p3 e3. met _ _ 0 _ (is (member t (v .own .held))) e3 (λ p4 e4. e4))))
 numbers v (step s) =
-    met _ 1 _ _ (past (v .count) s) refl
-    (λ p1 e1. met _ 2 _ _ (is (v .own .lost)) e1
-    (λ p2 e2. met _ 6 _ _ (idle (v .own .stage)) e2
-    (λ p3 e3. met _ 7 _ _ (told-apart Decided (v .own .stage)) e3
-    (λ p4 e4. met _ 8 _ _ (waits v s) e4 (λ p5 e5. met _ 42 0 _ (takes v) e5 (λ p6 e6. e6))))))
-numbers v (lose s) = met _ 1 _ _ (past (v .count) s) refl (λ p1 e1. met _ 2 0 _ (is (v .own .lost)) e1 (λ p2 e2. e2))
+    met _ _ _ _ (past (v .count) s) refl
+    (λ p1 e1. met _ _ _ _ (is (v .own .lost)) e1
+    (λ p2 e2. met _ _ _ _ (idle (v .own .stage)) e2
+    (λ p3 e3. met _ _ _ _ (told-apart Decided (v .own .stage)) e3
+    (λ p4 e4. met _ _ _ _ (waits v s) e4 (λ p5 e5. met _ _ 0 _ (takes v) e5 (λ p6 e6. e6))))))
+numbers v (lose s) = met _ _ _ _ (past (v .count) s) refl (λ p1 e1. met _ _ 0 _ (is (v .own .lost)) e1 (λ p2 e2. e2))
 numbers v (answer b a) =
-    met _ 9 _ _ (past (ballots (v .count) (v .rule)) b) refl
-    (λ p1 e1. met _ 10 _ _ (ltb-true 1 a, lt-ltb 1 a) e1
-    (λ p2 e2. met _ 11 _ _ (is (v .ballot .answered)) e2 (λ p3 e3. met _ 12 0 _ (nobody v a p2) e3 (λ p4 e4. e4))))
+    met _ _ _ _ (past (ballots (v .count) (v .rule)) b) refl
+    (λ p1 e1. met _ _ _ _ (ltb-true 1 a, lt-ltb 1 a) e1
+    (λ p2 e2. met _ _ _ _ (is (v .ballot .answered)) e2 (λ p3 e3. met _ _ 0 _ (nobody v a p2) e3 (λ p4 e4. e4))))
