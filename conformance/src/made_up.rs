@@ -187,7 +187,7 @@ fn reached(rng: &mut Rng, script: &mut Script, counts: &mut Counts) {
         log = generate::damaged(rng, &log);
     }
     log.truncate(3000);
-    let count = events.len() as u32;
+    let count = Record::run(&log, usize::MAX).1.events as u32;
     let middle = rng.below(events.len() + 1) as u32;
     let limit =
         rng.pick(&[0, 1, 2, middle, middle, middle, count, count + 1, count.saturating_sub(1), 65_536, u32::MAX]);
