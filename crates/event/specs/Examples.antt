@@ -23,12 +23,12 @@ pub data Row : Type 0 where
   leaves : View → Event → Station → Ballot → Row
   looks : View → Event → (own beside ballot : ℕ) → Row
 
-abbrev same-station : Station → Station → Bool
+abbrev pub same-station : Station → Station → Bool
 same-station t u =
     at (u .stage) (t .stage) && Bool·beq (t .lost) (u .lost) && eqb (t .held) (u .held) && eqb (t .claim) (u .claim)
     && eqb (t .cursor) (u .cursor) && eqb (t .round) (u .round) && eqb (t .word) (u .word) && eqb (t .decision) (u .decision)
 
-abbrev same-ballot : Ballot → Ballot → Bool
+abbrev pub same-ballot : Ballot → Ballot → Bool
 same-ballot b c =
     Bool·beq (b .cast0) (c .cast0) && Bool·beq (b .cast1) (c .cast1) && Bool·beq (b .answered) (c .answered) && Bool·beq (b .answer) (c .answer)
 
@@ -38,14 +38,14 @@ right (leaves v e t b) = eqb (number-on v e) 0 && same-station (own-after v e) t
 right (looks v e o s b) = eqb (own-of e) o && eqb (beside-of (v .count) (v .own) e) s && eqb (ballot-of (v .rule) (v .own) e) b
 
 -- a station at a stage, which holds the claims of the stations in the mask `held`, with claim c, cursor j, round k, word d and decision w
-abbrev live : Stage → (held c j k d w : ℕ) → Station
+abbrev pub live : Stage → (held c j k d w : ℕ) → Station
 live g held c j k d w = record { stage = g; lost = false; held = held; claim = c; cursor = j; round = k; word = d; decision = w }
 
-abbrev lost : Stage → (held c j k d w : ℕ) → Station
+abbrev pub lost : Stage → (held c j k d w : ℕ) → Station
 lost g held c j k d w = record { stage = g; lost = true; held = held; claim = c; cursor = j; round = k; word = d; decision = w }
 
 -- a ballot: 0 cast, 1 cast, answered, the answer
-abbrev marks : (zero one answered bit : Bool) → Ballot
+abbrev pub marks : (zero one answered bit : Bool) → Ballot
 marks zero one answered bit = record { cast0 = zero; cast1 = one; answered = answered; answer = bit }
 
 -- n stations under a rule: the own station alone; or the one beside it and the ballot too

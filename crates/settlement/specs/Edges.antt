@@ -9,7 +9,7 @@ use Rattle.entry.specs.declared.entry.Stage.{Stage}
 use Rattle.entry.specs.declared.entry.Stage.the-variants.{Idle, Waiting, Voting, Awaiting, Seeking, FinishVoting, FinishAwaiting, Decided}
 use Rattle.entry.specs.declared.entry.Station.{Station}
 use Rattle.entry.specs.declared.entry.Ballot.{Ballot}
-use Rattle.entry.specs.Stages.{at}
+use Rattle.event.specs.Examples.{same-station, same-ballot, live, lost, marks}
 use Rattle.settlement.specs.declared.record.Settlement.{Settlement}
 use Rattle.settlement.specs.declared.record.Outcome.{Outcome}
 use Rattle.settlement.specs.declared.record.Standing.{Standing}
@@ -29,16 +29,6 @@ pub data Row : Type 0 where
 abbrev same-outcome : Outcome → (number count rule : ℕ) → Bool
 same-outcome o k n rule = eqb (o .number) k && eqb (o .settlement .count) n && eqb (o .settlement .rule) rule
 
-abbrev same-station : Station → Station → Bool
-same-station t u =
-    at (u .stage) (t .stage) && Bool·beq (t .lost) (u .lost)
-    && eqb (t .held) (u .held) && eqb (t .claim) (u .claim) && eqb (t .cursor) (u .cursor) && eqb (t .round) (u .round)
-    && eqb (t .word) (u .word) && eqb (t .decision) (u .decision)
-
-abbrev same-ballot : Ballot → Ballot → Bool
-same-ballot t u =
-    Bool·beq (t .cast0) (u .cast0) && Bool·beq (t .cast1) (u .cast1) && Bool·beq (t .answered) (u .answered) && Bool·beq (t .answer) (u .answer)
-
 abbrev same-standing : Standing → ℕ → Bool → ℕ → ℕ → Bool
 same-standing x k d v m = eqb (x .number) k && Bool·beq (x .decided) d && eqb (x .claim) v && eqb (x .votes) m
 
@@ -51,19 +41,9 @@ right (shows r s k d v m) = same-standing (looked r s) k d v m
 
 -- ---- made-up records
 
--- a live station, and one lost
-abbrev live : Stage → (held claim cursor round word decision : ℕ) → Station
-live g h c j k d v = record { stage = g; lost = false; held = h; claim = c; cursor = j; round = k; word = d; decision = v }
-
-abbrev lost : Stage → (held claim cursor round word decision : ℕ) → Station
-lost g h c j k d v = record { stage = g; lost = true; held = h; claim = c; cursor = j; round = k; word = d; decision = v }
-
 -- a live station with a cursor and a round, and nothing else
 abbrev entry-at : Stage → (cursor round : ℕ) → Station
 entry-at g j k = live g 0 0 j k 0 0
-
-abbrev marks : (cast0 cast1 answered answer : Bool) → Ballot
-marks x y z a = record { cast0 = x; cast1 = y; answered = z; answer = a }
 
 -- n stations under a rule, the entry of station s made up; and that of station q, or of ballot b, too
 abbrev made-up : (n rule s : ℕ) → Station → Settlement
