@@ -4,8 +4,8 @@ use mathlib.Core.Path.{_≡_, refl}
 use Rattle.bits.specs.Digits.{digitsIn, binaryDigits, bitLength, bit}
 use Rattle.bits.specs.Words.{withBit, lowAgree, wordWithBit, member, insert}
 use Rattle.bits.specs.Log.{leastFrom, ceilLog2}
-use Rattle.bits.specs.Examples.{right, every, written}
+use Rattle.bits.specs.Examples.{right, Written-right}
 
-pub examples : every right written ≡ true
+pub examples : Written-right
 unfolding digitsIn binaryDigits bitLength bit withBit lowAgree wordWithBit member insert leastFrom ceilLog2 right
 examples = refl

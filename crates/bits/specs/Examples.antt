@@ -1,5 +1,6 @@
 -- What the documents write out: claims with their lengths and numbers of stations with their R (document 01, "The settlement"), and the bits
 -- of 5 (paper 000, section 3); and the edges of a claim's 32 bits and of a mask's 32 stations. Assumes nothing.
+use mathlib.Core.Path.{_≡_}
 use Prim.Native.Nat.{ℕ, _-_, _^_}
 use mathlib.Core.Bool.{Bool, true, false, _&&_, Bool·beq}
 use mathlib.Core.List.{List, [], _∷_}
@@ -45,3 +46,6 @@ written =
     ∷ inClaim 31 true 0 2147483648 ∷ inClaim 32 true 0 0 ∷ inClaim 0 false 4294967295 4294967294
     ∷ memberOf 0 1 true ∷ memberOf 31 2147483648 true ∷ memberOf 30 2147483648 false ∷ memberOf 32 4294967295 false
     ∷ inserting 0 2 3 ∷ inserting 31 0 2147483648 ∷ inserting 31 2147483648 2147483648 ∷ inserting 32 5 5 ∷ []
+
+abbrev pub Written-right : Type 0
+Written-right = every right written ≡ true

@@ -12,12 +12,15 @@ use Rattle.basics.specs.Tests.{first-met}
 use Rattle.event.specs.Step.{started, bit-taken, finish-taken, found, sought, stepped, voted}
 use Rattle.event.specs.Change.{own-after, ballot-after}
 use Rattle.settlement.specs.Look.{votes, looked}
-use Rattle.settlement.specs.Edges.{right, edges, wrong, not-right}
+use Rattle.settlement.specs.Edges.{right, edges, wrong, not-right, Edges-right}
 
-pub edges-right : every right edges ≡ true
+rows-right : every right edges ≡ true
 unfolding bit binaryDigits digitsIn withBit wordWithBit lowAgree member insert ceilLog2 leastFrom any-below station-fault fault first-met own-after ballot-after voted number started bit-taken finish-taken found sought stepped outcome effect opened played votes looked
-edges-right = refl
+rows-right = refl
 
-pub wrong-told : every not-right wrong ≡ true
+wrong-told : every not-right wrong ≡ true
 unfolding bit binaryDigits digitsIn withBit wordWithBit lowAgree member insert ceilLog2 leastFrom any-below station-fault fault first-met own-after ballot-after voted number started bit-taken finish-taken found sought stepped outcome effect opened played votes looked
 wrong-told = refl
+
+pub edges-right : Edges-right
+edges-right = record { rows = rows-right; told = wrong-told }

@@ -1,5 +1,7 @@
 -- Edges, as one list of rows with literal numbers (document 01, "Operations and what they turn away"): a row is a record, made up mostly, an operation
 -- and what it answers or leaves. The entries are odd on purpose: no two fields have the same number, so a field that moves is seen. Assumes nothing.
+use Rattle.bits.specs.Examples.{every}
+use mathlib.Core.Path.{_≡_}
 use Prim.Native.Nat.{ℕ}
 use mathlib.Core.Bool.{Bool, true, false, not, _&&_, Bool·beq}
 use mathlib.Core.List.{List, [], _∷_, _++_}
@@ -254,3 +256,7 @@ wrong =
 
 abbrev pub not-right : Row → Bool
 not-right row = not (right row)
+
+pub record Edges-right : Type 0 where
+  pub rows : every right edges ≡ true
+  pub told : every not-right wrong ≡ true
