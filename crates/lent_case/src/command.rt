@@ -52,7 +52,7 @@ fn changes(tag: u8, first: u8, second: u8, body: &[u8], r: Settlement) -> Settle
     }
 }
 
-pub fn command(tag: u8, body: &[u8], r: Settlement) -> Settlement {
+pub(crate) fn command(tag: u8, body: &[u8], r: Settlement) -> Settlement {
     let first = byte(body, 0);
     reads(tag, body);
     asks(tag, first, r);

@@ -9,7 +9,7 @@ use settlement::record::Settlement;
 use settlement::record::Standing;
 
 // OPEN n, rule, where r stood.
-pub fn open_through(r: Settlement, n: u8, rule: u8) -> Outcome
+pub(crate) fn open_through(r: Settlement, n: u8, rule: u8) -> Outcome
     ensures { λ x. ⌜ x ≡ opened n rule ⌝ }
 {
     let mut lent = r;
@@ -21,7 +21,7 @@ pub fn open_through(r: Settlement, n: u8, rule: u8) -> Outcome
 }
 
 // LOOK s at a copy that is lent.
-pub fn look_through(r: Settlement, s: u8) -> Standing
+pub(crate) fn look_through(r: Settlement, s: u8) -> Standing
     ensures { λ x. ⌜ x ≡ looked r s ⌝ }
 {
     let lent = r;

@@ -7,7 +7,7 @@ use entry::entry::Station;
 use settlement::record::Settlement;
 
 // The number of stations and the rule.
-pub fn with_head(n: u8, rule: u8, r: Settlement) -> Settlement {
+pub(crate) fn with_head(n: u8, rule: u8, r: Settlement) -> Settlement {
     let mut next = r;
     next.count = n;
     next.rule = rule;
@@ -42,7 +42,7 @@ fn station_in(body: &[u8]) -> Station {
     }
 }
 
-pub fn with_station(s: u8, body: &[u8], r: Settlement) -> Settlement {
+pub(crate) fn with_station(s: u8, body: &[u8], r: Settlement) -> Settlement {
     let i = (s % 32) as usize;
     let t = station_in(body);
     let mut next = r;
@@ -60,7 +60,7 @@ fn ballot_of(marks: u8) -> Ballot {
     }
 }
 
-pub fn with_ballot(b: u8, marks: u8, r: Settlement) -> Settlement {
+pub(crate) fn with_ballot(b: u8, marks: u8, r: Settlement) -> Settlement {
     let i = (b % 64) as usize;
     let t = ballot_of(marks);
     let mut next = r;

@@ -36,7 +36,7 @@ fn field(f: Field) {
 }
 
 // READ: the field and the bytes taken, or the number alone.
-pub fn read_of(s: &[u8]) {
+pub(crate) fn read_of(s: &[u8]) {
     match read(s) {
         Reading::Found { field: f, taken } => {
             field(f);
@@ -53,7 +53,7 @@ fn counts(events: usize, taken: usize, status: u8) {
 }
 
 // RUN: events, bytes taken and status; its settlement goes on. Before the log stands the limit.
-pub fn runs(s: &[u8]) -> Settlement {
+pub(crate) fn runs(s: &[u8]) -> Settlement {
     let a = run(rest(s, 4), word(s, 0) as usize);
     counts(a.events, a.taken, a.status);
     a.settlement

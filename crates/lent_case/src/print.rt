@@ -1,27 +1,27 @@
 // Numbers, bytes and the script's own notes on standard output. The notes have the words: a program of many words takes long to check.
 use libc::STDOUT_FILENO;
 
-pub fn text(word: &[u8]) {
+pub(crate) fn text(word: &[u8]) {
     io::write_all(STDOUT_FILENO, word);
 }
 
 // A number, and a blank before it.
-pub fn number(n: u64) {
+pub(crate) fn number(n: u64) {
     io::write_all(STDOUT_FILENO, b" ");
     io::print_decimal(STDOUT_FILENO, n);
 }
 
-pub fn small(n: u8) {
+pub(crate) fn small(n: u8) {
     number(n as u64);
 }
 
 // A claim, or a mask of stations.
-pub fn claim(n: u32) {
+pub(crate) fn claim(n: u32) {
     number(n as u64);
 }
 
 // 1 where the mark stands.
-pub fn mark(b: bool) {
+pub(crate) fn mark(b: bool) {
     number(b as u64);
 }
 
@@ -39,7 +39,7 @@ fn bytes(s: &[u8]) {
 }
 
 // A part of a slice: how many bytes, and which.
-pub fn part(s: &[u8]) {
+pub(crate) fn part(s: &[u8]) {
     number(s.len() as u64);
     text(b" ");
     bytes(s);

@@ -3,12 +3,12 @@ ghost use Prim.Native.Nat.{_+_, _≤_};
 ghost use lib.ListN.{length};
 use log::rest::rest;
 
-pub fn byte(s: &[u8], i: usize) -> u8 {
+pub(crate) fn byte(s: &[u8], i: usize) -> u8 {
     if i < s.len() { s[i] } else { 0 }
 }
 
 // The bytes of the command at a place: a head of three, and as many as it says.
-pub fn size(s: &[u8], at: usize) -> usize
+pub(crate) fn size(s: &[u8], at: usize) -> usize
     ensures { λ r. ⌜ 3 ≤ r ⌝ }
 {
     let command = rest(s, at);
@@ -18,7 +18,7 @@ pub fn size(s: &[u8], at: usize) -> usize
 }
 
 // The body of a command of so many bytes at a place.
-pub fn body(s: &[u8], at: usize, size: usize) -> &[u8]
+pub(crate) fn body(s: &[u8], at: usize, size: usize) -> &[u8]
     requires { ⌜ 3 ≤ size ⌝ }
     requires { ⌜ at + size ≤ length (now s) ⌝ }
 {
@@ -28,7 +28,7 @@ pub fn body(s: &[u8], at: usize, size: usize) -> &[u8]
 }
 
 // Four bytes from i on, high byte first.
-pub fn word(s: &[u8], i: usize) -> u32 {
+pub(crate) fn word(s: &[u8], i: usize) -> u32 {
     let from = rest(s, i);
     let a = byte(from, 0);
     let b = byte(from, 1);

@@ -14,12 +14,12 @@ fn goes_on(a: Outcome) -> Settlement {
     a.settlement
 }
 
-pub fn opens(n: u8, rule: u8, r: Settlement) -> Settlement {
+pub(crate) fn opens(n: u8, rule: u8, r: Settlement) -> Settlement {
     goes_on(open_through(r, n, rule))
 }
 
 // The event of a tag, its numbers in the order that a log has.
-pub fn event_of(tag: u8, first: u8, second: u8, v: u32) -> Event {
+pub(crate) fn event_of(tag: u8, first: u8, second: u8, v: u32) -> Event {
     match tag {
         0x10 => Event::Claim { s: first, v },
         0x11 => Event::Deliver {
@@ -35,7 +35,7 @@ pub fn event_of(tag: u8, first: u8, second: u8, v: u32) -> Event {
     }
 }
 
-pub fn plays(e: Event, r: Settlement) -> Settlement {
+pub(crate) fn plays(e: Event, r: Settlement) -> Settlement {
     goes_on(play_through(r, e))
 }
 
@@ -47,6 +47,6 @@ fn standing(a: Standing) {
 }
 
 // LOOK s: its number, whether decided, the claim and the votes.
-pub fn looks(s: u8, r: Settlement) {
+pub(crate) fn looks(s: u8, r: Settlement) {
     standing(look_through(r, s));
 }

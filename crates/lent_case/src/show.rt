@@ -6,7 +6,7 @@ use entry::stage::rank;
 use settlement::record::Settlement;
 
 // The number of stations, and the rule.
-pub fn head(r: Settlement) {
+pub(crate) fn head(r: Settlement) {
     print::small(r.count);
     print::small(r.rule);
 }
@@ -24,7 +24,7 @@ fn station_entry(t: Station) {
     print::claim(t.decision);
 }
 
-pub fn station(s: u8, r: Settlement) {
+pub(crate) fn station(s: u8, r: Settlement) {
     let i = (s % 32) as usize;
     station_entry(r.stations[i]);
 }
@@ -37,7 +37,7 @@ fn ballot_entry(t: Ballot) {
     print::mark(t.answer);
 }
 
-pub fn ballot(b: u8, r: Settlement) {
+pub(crate) fn ballot(b: u8, r: Settlement) {
     let i = (b % 64) as usize;
     ballot_entry(r.ballots[i]);
 }
