@@ -89,5 +89,5 @@ writing = record {
   past = record { bytes = refl; ends = refl; short = omega arith; fits = omega arith };
   room = record { written = refl; counted = refl };
   just = record { written = refl; counted = refl };
-  too-long = record { written = refl; counted = refl };
+  does-not-fit = record { written = refl; counted = refl };
 }

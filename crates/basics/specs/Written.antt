@@ -40,4 +40,4 @@ pub record Writing : Type 0 where
   pub past : Wrote 1 (9 ∷ []) 18446744073709551615 (5 ∷ []) (9 ∷ []) 18446744073709551615
   pub room : Filled (5 ∷ 6 ∷ []) (9 ∷ 9 ∷ 9 ∷ []) (5 ∷ 6 ∷ 9 ∷ []) 2
   pub just : Filled (5 ∷ 6 ∷ []) (9 ∷ 9 ∷ []) (5 ∷ 6 ∷ []) 2
-  pub too-long : Filled (5 ∷ 6 ∷ []) (9 ∷ []) (9 ∷ []) 0
+  pub does-not-fit : Filled (5 ∷ 6 ∷ []) (9 ∷ []) (9 ∷ []) 0

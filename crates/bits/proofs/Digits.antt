@@ -15,13 +15,13 @@ use lib.Dec.{eqb}
 use lib.ListN.{length, getD}
 use lib.Pow.{pow-mono, pow-pos}
 use borrow.Author.Tests.{eqb-true, eqb-false}
-use Rattle.bits.specs.Digits.{value, lowest, digitsIn, binaryDigits, bitLength, bit, LengthRule}
+use Rattle.bits.specs.Digits.{value, lowest, digits-in, binary-digits, bit-length, bit, Length-rule}
 
 -- ---- the step
 
 -- more steps than a number has digits change nothing
-fuel-same : (f g m : ℕ) → m ≤ f → m ≤ g → digitsIn f m ≡ digitsIn g m
-unfolding digitsIn
+fuel-same : (f g m : ℕ) → m ≤ f → m ≤ g → digits-in f m ≡ digits-in g m
+unfolding digits-in
 fuel-same zero zero m h l = refl
 fuel-same zero (suc g) zero h l = refl
 fuel-same zero (suc g) (suc m) h l = absurd (not-suc-le-zero h)
@@ -32,26 +32,26 @@ fuel-same (suc f) (suc g) (suc m) h l =
     ap {B = List Bool} (λ d. lowest (suc m) ∷ d) (fuel-same f g (suc m / 2) (half-le h) (half-le l))
 
 -- the digits above the lowest are those of half the number, or none where the half is 0
-digits-above : (n m : ℕ) → n / 2 ≡ suc m → binaryDigits n ≡ lowest n ∷ binaryDigits (suc m)
-unfolding binaryDigits digitsIn
+digits-above : (n m : ℕ) → n / 2 ≡ suc m → binary-digits n ≡ lowest n ∷ binary-digits (suc m)
+unfolding binary-digits digits-in
 digits-above zero m e = absurd (not-suc-le-zero (le-of-eq (sym e)))
 digits-above (suc n) m e =
     let above : suc m ≤ suc n = omega arith in
-    ap {B = List Bool} (λ h. lowest (suc n) ∷ digitsIn (suc n) h) e
+    ap {B = List Bool} (λ h. lowest (suc n) ∷ digits-in (suc n) h) e
     ∙ ap {B = List Bool} (λ d. lowest (suc n) ∷ lowest (suc m) ∷ d) (fuel-same n (suc m) (suc m / 2) (half-le above) (half-le (omega arith)))
 
-digits-last : (n : ℕ) → n / 2 ≡ zero → binaryDigits n ≡ lowest n ∷ []
-unfolding binaryDigits digitsIn
+digits-last : (n : ℕ) → n / 2 ≡ zero → binary-digits n ≡ lowest n ∷ []
+unfolding binary-digits digits-in
 digits-last zero e = refl
-digits-last (suc n) e = ap {B = List Bool} (λ h. lowest (suc n) ∷ digitsIn (suc n) h) e
+digits-last (suc n) e = ap {B = List Bool} (λ h. lowest (suc n) ∷ digits-in (suc n) h) e
 
 pub bit-zero : (k : ℕ) → bit k 0 ≡ false
-unfolding bit binaryDigits digitsIn
+unfolding bit binary-digits digits-in
 bit-zero zero = refl
 bit-zero (suc k) = refl
 
 pub bit-low : (n : ℕ) → bit 0 n ≡ lowest n
-unfolding bit binaryDigits
+unfolding bit binary-digits
 bit-low n = refl
 
 pub bit-step : (k n : ℕ) → bit (suc k) n ≡ bit k (n / 2)
@@ -118,35 +118,35 @@ not-double l t m b d g = let twice : 2 ^ suc l ≡ 2 ^ l * 2 = pow-suc 2 l in om
 
 -- ---- the length
 
-length-above : (n m : ℕ) → n / 2 ≡ suc m → bitLength n ≡ suc (bitLength (n / 2))
-unfolding bitLength
-length-above n m e = ap length (digits-above n m e) ∙ ap (λ (x : ℕ). suc (length (binaryDigits x))) (sym e)
+length-above : (n m : ℕ) → n / 2 ≡ suc m → bit-length n ≡ suc (bit-length (n / 2))
+unfolding bit-length
+length-above n m e = ap length (digits-above n m e) ∙ ap (λ (x : ℕ). suc (length (binary-digits x))) (sym e)
 
-length-last : (n : ℕ) → n / 2 ≡ zero → bitLength n ≡ 1
-unfolding bitLength
+length-last : (n : ℕ) → n / 2 ≡ zero → bit-length n ≡ 1
+unfolding bit-length
 length-last n e = ap length (digits-last n e)
 
-pub length-pos : (n : ℕ) → 0 < bitLength n
-unfolding bitLength binaryDigits
-length-pos n = zero-lt-suc (length (digitsIn n (n / 2)))
+pub length-pos : (n : ℕ) → 0 < bit-length n
+unfolding bit-length binary-digits
+length-pos n = zero-lt-suc (length (digits-in n (n / 2)))
 
-pub length-bound : (n : ℕ) → n < 2 ^ bitLength n
-length-bound n = bin-ind (λ (m : ℕ). m < 2 ^ bitLength m) (pow-pos (bitLength 0)) (λ m ih. go m (m / 2) refl ih) n
+pub length-bound : (n : ℕ) → n < 2 ^ bit-length n
+length-bound n = bin-ind (λ (m : ℕ). m < 2 ^ bit-length m) (pow-pos (bit-length 0)) (λ m ih. go m (m / 2) refl ih) n
   where
-    go : (m h : ℕ) → m / 2 ≡ h → m / 2 < 2 ^ bitLength (m / 2) → m < 2 ^ bitLength m
+    go : (m h : ℕ) → m / 2 ≡ h → m / 2 < 2 ^ bit-length (m / 2) → m < 2 ^ bit-length m
     go m zero e ih = rw (length-last m e) (omega arith)
-    go m (suc h) e ih = rw (length-above m h e) (double-lt (bitLength (m / 2)) m ih)
+    go m (suc h) e ih = rw (length-above m h e) (double-lt (bit-length (m / 2)) m ih)
 
-pub length-least : (k n : ℕ) → 0 < k → n < 2 ^ k → bitLength n ≤ k
+pub length-least : (k n : ℕ) → 0 < k → n < 2 ^ k → bit-length n ≤ k
 length-least zero n p h = absurd (not-suc-le-zero p)
 length-least (suc k) n p h = go (n / 2) refl (length-least k (n / 2)) (half-lt k n h)
   where
-    go : (m : ℕ) → n / 2 ≡ m → (0 < k → n / 2 < 2 ^ k → bitLength (n / 2) ≤ k) → n / 2 < 2 ^ k → bitLength n ≤ suc k
+    go : (m : ℕ) → n / 2 ≡ m → (0 < k → n / 2 < 2 ^ k → bit-length (n / 2) ≤ k) → n / 2 < 2 ^ k → bit-length n ≤ suc k
     go zero e ih l = rw (length-last n e) p
     go (suc m) e ih l = rw (length-above n m e) (suc-le-suc (ih (pos-of-lt-pow k (n / 2) (omega arith) l) l))
 
-pub bit-below-length : (i n : ℕ) → bit i n ≡ true → i < bitLength n
-bit-below-length i n e = lt-of-not-le (λ l. false≢true (sym (bit-above (bitLength n) n (length-bound n) i l) ∙ e))
+pub bit-below-length : (i n : ℕ) → bit i n ≡ true → i < bit-length n
+bit-below-length i n e = lt-of-not-le (λ l. false≢true (sym (bit-above (bit-length n) n (length-bound n) i l) ∙ e))
 
 -- ---- the length rule: what the leading zeros leave of a width is the least l with m < 2 ^ l
 
@@ -159,9 +159,9 @@ zeros-least w m l h b =
     let short : t .0 ≤ l = le-of-suc-le-suc (lt-of-not-le (λ (g : suc l ≤ t .0). not-double l (t .0) m b (t .3) (pow-mono g))) in
     omega arith
 
-pub length-rule : LengthRule
+pub length-rule : Length-rule
 length-rule w n p h =
     let left = w - leadingZeros w n in
     le-antisymm
     (length-least (max 1 left) n (le-max-left 1 left) (lt-of-lt-of-le (zeros-enough w n h) (pow-mono (le-max-right 1 left))))
-    (max-le (length-pos n) (zeros-least w n (bitLength n) h (length-bound n)))
+    (max-le (length-pos n) (zeros-least w n (bit-length n) h (length-bound n)))

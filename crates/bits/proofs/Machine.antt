@@ -10,8 +10,8 @@ use lib.Dec.{eqb}
 use lib.Pow.{pow-pos, pow-mono, shl-exact}
 use mir.Val.{boolByte}
 use Rattle.bits.specs.Digits.{value, bit}
-use Rattle.bits.specs.Words.{withBit, lowAgree, wordWithBit}
-use Rattle.bits.proofs.Words.{value-lt, bit-le, word-inside, lowAgree-mod}
+use Rattle.bits.specs.Words.{with-bit, low-agree, word-with-bit}
+use Rattle.bits.proofs.Words.{value-lt, bit-le, word-inside, low-agree-mod}
 
 -- ---- a bit changed
 
@@ -26,8 +26,8 @@ pub word-taken : (w k n : ℕ) (old : Bool) → k < w → old ≡ bit k n → bo
 word-taken w k n old h e = rw (bool-shift w k old h, e) (bit-le k n)
 
 pub word-made : (w k n : ℕ) (old new : Bool) → k < w → old ≡ bit k n
-    → n - boolByte old * 2 ^ k % 2 ^ w + boolByte new * 2 ^ k % 2 ^ w ≡ wordWithBit w k new n
-unfolding withBit
+    → n - boolByte old * 2 ^ k % 2 ^ w + boolByte new * 2 ^ k % 2 ^ w ≡ word-with-bit w k new n
+unfolding with-bit
 word-made w k n old new h e = rw (bool-shift w k old h, bool-shift w k new h, e) (sym (word-inside w k new n h))
 
 -- ---- low bits compared: the remainders by 2 ^ (k + 1), or the whole word where it has no more bits
@@ -38,9 +38,9 @@ power-exact w k h = shift-exact w k 1 (value-lt true) h ∙ one-mul (2 ^ k)
 pub power-positive : (w k : ℕ) → k < w → 0 < 1 * 2 ^ k % 2 ^ w
 power-positive w k h = rw (power-exact w k h) (pow-pos k)
 
-pub agree-made : (w k a b : ℕ) → k + 1 < w → eqb (a % (1 * 2 ^ (k + 1) % 2 ^ w)) (b % (1 * 2 ^ (k + 1) % 2 ^ w)) ≡ lowAgree k a b
-agree-made w k a b h = rw (power-exact w (k + 1) h, add-one k) (sym (lowAgree-mod k a b))
+pub agree-made : (w k a b : ℕ) → k + 1 < w → eqb (a % (1 * 2 ^ (k + 1) % 2 ^ w)) (b % (1 * 2 ^ (k + 1) % 2 ^ w)) ≡ low-agree k a b
+agree-made w k a b h = rw (power-exact w (k + 1) h, add-one k) (sym (low-agree-mod k a b))
 
-pub agree-whole : (w k a b : ℕ) → w ≤ suc k → a < 2 ^ w → b < 2 ^ w → eqb a b ≡ lowAgree k a b
+pub agree-whole : (w k a b : ℕ) → w ≤ suc k → a < 2 ^ w → b < 2 ^ w → eqb a b ≡ low-agree k a b
 agree-whole w k a b h l m =
-    sym (lowAgree-mod k a b ∙ ap₂ eqb (mod-eq-of-lt (lt-of-lt-of-le l (pow-mono h))) (mod-eq-of-lt (lt-of-lt-of-le m (pow-mono h))))
+    sym (low-agree-mod k a b ∙ ap₂ eqb (mod-eq-of-lt (lt-of-lt-of-le l (pow-mono h))) (mod-eq-of-lt (lt-of-lt-of-le m (pow-mono h))))

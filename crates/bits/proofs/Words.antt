@@ -12,7 +12,7 @@ use lib.Dec.{eqb, ltb}
 use lib.Pow.{pow-pos}
 use borrow.Author.Tests.{eqb-true, eq-eqb, lt-ltb, le-ltb, ltb-true, ltb-false}
 use Rattle.bits.specs.Digits.{value, bit}
-use Rattle.bits.specs.Words.{withBit, lowAgree, wordWithBit, BitLaws, WordLaws}
+use Rattle.bits.specs.Words.{with-bit, low-agree, word-with-bit, Bit-laws, Word-laws}
 use Rattle.bits.proofs.Digits.{bit-low, bit-step, bit-ext, bit-above, lt-of-bits, halves, lowest-value}
 
 -- ---- a number made of a half and a lowest digit
@@ -41,57 +41,57 @@ pub bit-le : (k n : ℕ) → value (bit k n) * 2 ^ k ≤ n
 bit-le zero n = let whole = halves n in rw mul-one (omega arith)
 bit-le (suc k) n = rw (bit-step k n, shifted (value (bit k (n / 2))) k) (omega (arith, bit-le k (n / 2)))
 
-with-low : (b : Bool) (n : ℕ) → withBit 0 b n ≡ n / 2 * 2 + value b
-unfolding withBit
+with-low : (b : Bool) (n : ℕ) → with-bit 0 b n ≡ n / 2 * 2 + value b
+unfolding with-bit
 with-low b n = let whole = halves n in rw (mul-one (value (bit 0 n)), mul-one (value b)) (omega arith)
 
-with-step : (k : ℕ) (b : Bool) (n : ℕ) → withBit (suc k) b n ≡ withBit k b (n / 2) * 2 + value (bit 0 n)
-unfolding withBit
+with-step : (k : ℕ) (b : Bool) (n : ℕ) → with-bit (suc k) b n ≡ with-bit k b (n / 2) * 2 + value (bit 0 n)
+unfolding with-bit
 with-step k b n =
     rw (bit-step k n, shifted (value (bit k (n / 2))) k, shifted (value b) k) (omega (arith, halves n, bit-le k (n / 2)))
 
-pub bit-same : (k : ℕ) (b : Bool) (n : ℕ) → bit k (withBit k b n) ≡ b
+pub bit-same : (k : ℕ) (b : Bool) (n : ℕ) → bit k (with-bit k b n) ≡ b
 bit-same zero b n = ap (bit 0) (with-low b n) ∙ low-made (n / 2) b
 bit-same (suc k) b n =
-    ap (bit (suc k)) (with-step k b n) ∙ high-made k (withBit k b (n / 2)) (bit 0 n) ∙ bit-same k b (n / 2)
+    ap (bit (suc k)) (with-step k b n) ∙ high-made k (with-bit k b (n / 2)) (bit 0 n) ∙ bit-same k b (n / 2)
 
-pub bit-other : (k i : ℕ) (b : Bool) (n : ℕ) → (i ≡ k → ⊥) → bit i (withBit k b n) ≡ bit i n
+pub bit-other : (k i : ℕ) (b : Bool) (n : ℕ) → (i ≡ k → ⊥) → bit i (with-bit k b n) ≡ bit i n
 bit-other zero zero b n d = absurd (d refl)
 bit-other zero (suc i) b n d = ap (bit (suc i)) (with-low b n) ∙ high-made i (n / 2) b ∙ sym (bit-step i n)
-bit-other (suc k) zero b n d = ap (bit 0) (with-step k b n) ∙ low-made (withBit k b (n / 2)) (bit 0 n)
+bit-other (suc k) zero b n d = ap (bit 0) (with-step k b n) ∙ low-made (with-bit k b (n / 2)) (bit 0 n)
 bit-other (suc k) (suc i) b n d =
-    ap (bit (suc i)) (with-step k b n) ∙ high-made i (withBit k b (n / 2)) (bit 0 n)
+    ap (bit (suc i)) (with-step k b n) ∙ high-made i (with-bit k b (n / 2)) (bit 0 n)
     ∙ bit-other k i b (n / 2) (λ e. d (ap suc e)) ∙ sym (bit-step i n)
 
 -- ---- words of a width
 
-pub word-inside : (w k : ℕ) (b : Bool) (n : ℕ) → k < w → wordWithBit w k b n ≡ withBit k b n
-unfolding wordWithBit
+pub word-inside : (w k : ℕ) (b : Bool) (n : ℕ) → k < w → word-with-bit w k b n ≡ with-bit k b n
+unfolding word-with-bit
 word-inside w k b n h = rw (lt-ltb k w h)
 
-pub word-outside : (w k : ℕ) (b : Bool) (n : ℕ) → w ≤ k → wordWithBit w k b n ≡ n
-unfolding wordWithBit
+pub word-outside : (w k : ℕ) (b : Bool) (n : ℕ) → w ≤ k → word-with-bit w k b n ≡ n
+unfolding word-with-bit
 word-outside w k b n h = rw (le-ltb k w h)
 
-pub with-lt : (w k : ℕ) (b : Bool) (n : ℕ) → k < w → n < 2 ^ w → withBit k b n < 2 ^ w
+pub with-lt : (w k : ℕ) (b : Bool) (n : ℕ) → k < w → n < 2 ^ w → with-bit k b n < 2 ^ w
 with-lt w k b n h l =
-    lt-of-bits w (withBit k b n) (λ i g. bit-other k i b n (ne-of-gt (lt-of-lt-of-le h g)) ∙ bit-above w n l i g)
+    lt-of-bits w (with-bit k b n) (λ i g. bit-other k i b n (ne-of-gt (lt-of-lt-of-le h g)) ∙ bit-above w n l i g)
 
 -- what holds of both, changed and as it was, holds of the word
-word-either : (P : ℕ → Type 0) (w k : ℕ) (b : Bool) (n : ℕ) → (k < w → P (withBit k b n)) → P n → P (wordWithBit w k b n)
+word-either : (P : ℕ → Type 0) (w k : ℕ) (b : Bool) (n : ℕ) → (k < w → P (with-bit k b n)) → P n → P (word-with-bit w k b n)
 word-either P w k b n f p = go (ltb k w) refl
   where
-    go : (t : Bool) → ltb k w ≡ t → P (wordWithBit w k b n)
+    go : (t : Bool) → ltb k w ≡ t → P (word-with-bit w k b n)
     go true e = let h = ltb-true k w e in subst P (sym (word-inside w k b n h)) (f h)
     go false e = subst P (sym (word-outside w k b n (ltb-false k w e))) p
 
-pub word-lt : (w k : ℕ) (b : Bool) (n : ℕ) → n < 2 ^ w → wordWithBit w k b n < 2 ^ w
+pub word-lt : (w k : ℕ) (b : Bool) (n : ℕ) → n < 2 ^ w → word-with-bit w k b n < 2 ^ w
 word-lt w k b n l = word-either (λ (x : ℕ). x < 2 ^ w) w k b n (λ h. with-lt w k b n h l) l
 
-pub word-same : (w k : ℕ) (b : Bool) (n : ℕ) → k < w → bit k (wordWithBit w k b n) ≡ b
+pub word-same : (w k : ℕ) (b : Bool) (n : ℕ) → k < w → bit k (word-with-bit w k b n) ≡ b
 word-same w k b n h = ap (bit k) (word-inside w k b n h) ∙ bit-same k b n
 
-pub word-other : (w k i : ℕ) (b : Bool) (n : ℕ) → (i ≡ k → ⊥) → bit i (wordWithBit w k b n) ≡ bit i n
+pub word-other : (w k i : ℕ) (b : Bool) (n : ℕ) → (i ≡ k → ⊥) → bit i (word-with-bit w k b n) ≡ bit i n
 word-other w k i b n d = word-either (λ (x : ℕ). bit i x ≡ bit i n) w k b n (λ h. bit-other k i b n d) refl
 
 -- ---- low bits compared
@@ -106,19 +106,19 @@ beq-refl : (x : Bool) → Bool·beq x x ≡ true
 beq-refl true = refl
 beq-refl false = refl
 
-pub agree-bits : (k a b : ℕ) → lowAgree k a b ≡ true → (i : ℕ) → i ≤ k → bit i a ≡ bit i b
-unfolding lowAgree
+pub agree-bits : (k a b : ℕ) → low-agree k a b ≡ true → (i : ℕ) → i ≤ k → bit i a ≡ bit i b
+unfolding low-agree
 agree-bits zero a b e i l = rw (le-zero l) (beq-true (bit 0 a) (bit 0 b) e)
 agree-bits (suc k) a b e i l =
-    let both = and-eq-true-iff (Bool·beq (bit (suc k) a) (bit (suc k) b)) (lowAgree k a b) .0 e in
+    let both = and-eq-true-iff (Bool·beq (bit (suc k) a) (bit (suc k) b)) (low-agree k a b) .0 e in
     ⊎-elim (λ q. rw q (beq-true (bit (suc k) a) (bit (suc k) b) (both .0)))
     (λ q. agree-bits k a b (both .1) i (le-of-suc-le-suc q)) (eq-or-lt-of-le l)
 
-pub bits-agree : (k a b : ℕ) → ((i : ℕ) → i ≤ k → bit i a ≡ bit i b) → lowAgree k a b ≡ true
-unfolding lowAgree
+pub bits-agree : (k a b : ℕ) → ((i : ℕ) → i ≤ k → bit i a ≡ bit i b) → low-agree k a b ≡ true
+unfolding low-agree
 bits-agree zero a b same = rw (same 0 zero-le) (beq-refl (bit 0 b))
 bits-agree (suc k) a b same =
-    and-eq-true-iff (Bool·beq (bit (suc k) a) (bit (suc k) b)) (lowAgree k a b) .1
+    and-eq-true-iff (Bool·beq (bit (suc k) a) (bit (suc k) b)) (low-agree k a b) .1
     (rw (same (suc k) (le-refl (suc k))) (beq-refl (bit (suc k) b)), bits-agree k a b (λ i l. same i (le-step l)))
 
 -- the k low bits are those of the remainder by 2 ^ k
@@ -148,17 +148,17 @@ same-flag true y f g = sym (f refl)
 same-flag false true f g = g refl
 same-flag false false f g = refl
 
-pub lowAgree-mod : (k a b : ℕ) → lowAgree k a b ≡ eqb (a % 2 ^ suc k) (b % 2 ^ suc k)
-lowAgree-mod k a b =
+pub low-agree-mod : (k a b : ℕ) → low-agree k a b ≡ eqb (a % 2 ^ suc k) (b % 2 ^ suc k)
+low-agree-mod k a b =
     let m = 2 ^ suc k in
-    same-flag (lowAgree k a b) (eqb (a % m) (b % m))
+    same-flag (low-agree k a b) (eqb (a % m) (b % m))
     (λ e. eq-eqb (a % m) (b % m) (same-mod (suc k) a b (λ i l. agree-bits k a b e i (le-of-suc-le-suc l))))
     (λ e.
     bits-agree k a b (λ i l.
     let h = suc-le-suc l in
     sym (bit-mod (suc k) i a h) ∙ ap (bit i) (eqb-true (a % m) (b % m) e) ∙ bit-mod (suc k) i b h))
 
-pub bit-laws : BitLaws
+pub bit-laws : Bit-laws
 bit-laws = record {
   lowest-bit = bit-low;
   higher-bits = bit-step;
@@ -168,5 +168,5 @@ bit-laws = record {
   compared = λ k a b. (agree-bits k a b, bits-agree k a b);
 }
 
-pub word-laws : WordLaws
+pub word-laws : Word-laws
 word-laws = record { inside = word-inside; outside = word-outside }

@@ -18,23 +18,23 @@ abbrev pub lowest : ℕ → Bool
 lowest n = eqb (n % 2) 1
 
 -- The digits of a number, lowest first, up to its highest 1: none for 0. A number has no more than `fuel` digits where it is at most `fuel`.
-unfoldable pub digitsIn : ℕ → ℕ → List Bool
-digitsIn zero n = []
-digitsIn (suc fuel) zero = []
-digitsIn (suc fuel) (suc m) = lowest (suc m) ∷ digitsIn fuel (suc m / 2)
+unfoldable pub digits-in : ℕ → ℕ → List Bool
+digits-in zero n = []
+digits-in (suc fuel) zero = []
+digits-in (suc fuel) (suc m) = lowest (suc m) ∷ digits-in fuel (suc m / 2)
 
 -- The binary digits of n, lowest first. The number 0 has the one digit 0.
-unfoldable pub binaryDigits : ℕ → List Bool
-binaryDigits n = lowest n ∷ digitsIn n (n / 2)
+unfoldable pub binary-digits : ℕ → List Bool
+binary-digits n = lowest n ∷ digits-in n (n / 2)
 
 -- 01, "The settlement": the length of a claim is the count of its binary digits, with 1 for claim 0.
-unfoldable pub bitLength : ℕ → ℕ
-bitLength n = length (binaryDigits n)
+unfoldable pub bit-length : ℕ → ℕ
+bit-length n = length (binary-digits n)
 
 -- Paper 000, section 3: n[k] is digit k of n, and 0 past its highest digit.
 unfoldable pub bit : ℕ → ℕ → Bool
-bit k n = getD (binaryDigits n) k false
+bit k n = getD (binary-digits n) k false
 
 -- 01, "The settlement": the length rule for any width w. A number of w bits is as long as what its leading zeros leave of w, and at least 1.
-abbrev pub LengthRule : Type 0
-LengthRule = (w n : ℕ) → 0 < w → n < 2 ^ w → bitLength n ≡ max 1 (w - leadingZeros w n)
+abbrev pub Length-rule : Type 0
+Length-rule = (w n : ℕ) → 0 < w → n < 2 ^ w → bit-length n ≡ max 1 (w - leadingZeros w n)

@@ -5,30 +5,30 @@ use Prim.Native.Nat.{ℕ, _-_, _^_}
 use mathlib.Core.Bool.{Bool, true, false, _&&_, Bool·beq}
 use mathlib.Core.List.{List, [], _∷_}
 use lib.Dec.{eqb}
-use Rattle.bits.specs.Digits.{bitLength, bit}
-use Rattle.bits.specs.Words.{withBit, lowAgree, claimBits, wordWithBit, member, insert}
-use Rattle.bits.specs.Log.{ceilLog2}
+use Rattle.bits.specs.Digits.{bit-length, bit}
+use Rattle.bits.specs.Words.{with-bit, low-agree, claim-bits, word-with-bit, member, insert}
+use Rattle.bits.specs.Log.{ceil-log2}
 
 pub data Example : Type 0 where
-  lengthOf : ℕ → ℕ → Example
-  logOf : ℕ → ℕ → Example
-  bitOf : ℕ → ℕ → Bool → Example
+  has-length : ℕ → ℕ → Example
+  has-log : ℕ → ℕ → Example
+  has-bit : ℕ → ℕ → Bool → Example
   writing : ℕ → Bool → ℕ → ℕ → Example
   -- the low k + 1 bits of two numbers agree; a claim with one bit written; a station in a mask; a mask with a station put in
   agreeing : ℕ → ℕ → ℕ → Bool → Example
-  inClaim : ℕ → Bool → ℕ → ℕ → Example
-  memberOf : ℕ → ℕ → Bool → Example
+  in-claim : ℕ → Bool → ℕ → ℕ → Example
+  has-member : ℕ → ℕ → Bool → Example
   inserting : ℕ → ℕ → ℕ → Example
 
-unfoldable pub right : Example → Bool
-right (lengthOf n l) = eqb (bitLength n) l
-right (logOf n r) = eqb (ceilLog2 n) r
-right (bitOf k n b) = Bool·beq (bit k n) b
-right (writing k b n m) = eqb (withBit k b n) m
-right (agreeing k n m b) = Bool·beq (lowAgree k n m) b
-right (inClaim k b n m) = eqb (wordWithBit claimBits k b n) m
-right (memberOf s mask b) = Bool·beq (member s mask) b
-right (inserting s mask m) = eqb (insert s mask) m
+unfoldable pub example-right : Example → Bool
+example-right (has-length n l) = eqb (bit-length n) l
+example-right (has-log n r) = eqb (ceil-log2 n) r
+example-right (has-bit k n b) = Bool·beq (bit k n) b
+example-right (writing k b n m) = eqb (with-bit k b n) m
+example-right (agreeing k n m b) = Bool·beq (low-agree k n m) b
+example-right (in-claim k b n m) = eqb (word-with-bit claim-bits k b n) m
+example-right (has-member s mask b) = Bool·beq (member s mask) b
+example-right (inserting s mask m) = eqb (insert s mask) m
 
 -- every entry of a list passes a test
 abbrev pub every : {A : Type 0} → (A → Bool) → List A → Bool
@@ -37,15 +37,15 @@ every f (x ∷ l) = f x && every f l
 
 abbrev pub written : List Example
 written =
-    lengthOf 0 1 ∷ lengthOf 1 1 ∷ lengthOf 2 2 ∷ lengthOf 3 2 ∷ lengthOf 4 3 ∷ lengthOf (2 ^ 32 - 1) 32
-    ∷ lengthOf 2147483647 31 ∷ lengthOf 2147483648 32
-    ∷ logOf 0 0 ∷ logOf 1 0 ∷ logOf 2 1 ∷ logOf 3 2 ∷ logOf 4 2 ∷ logOf 5 3 ∷ logOf 8 3 ∷ logOf 9 4 ∷ logOf 16 4 ∷ logOf 17 5 ∷ logOf 32 5 ∷ logOf 33 6
-    ∷ bitOf 0 5 true ∷ bitOf 1 5 false ∷ bitOf 2 5 true ∷ bitOf 5 5 false ∷ bitOf 31 2147483648 true ∷ bitOf 31 2147483647 false ∷ bitOf 32 4294967295 false
+    has-length 0 1 ∷ has-length 1 1 ∷ has-length 2 2 ∷ has-length 3 2 ∷ has-length 4 3 ∷ has-length (2 ^ 32 - 1) 32
+    ∷ has-length 2147483647 31 ∷ has-length 2147483648 32
+    ∷ has-log 0 0 ∷ has-log 1 0 ∷ has-log 2 1 ∷ has-log 3 2 ∷ has-log 4 2 ∷ has-log 5 3 ∷ has-log 8 3 ∷ has-log 9 4 ∷ has-log 16 4 ∷ has-log 17 5 ∷ has-log 32 5 ∷ has-log 33 6
+    ∷ has-bit 0 5 true ∷ has-bit 1 5 false ∷ has-bit 2 5 true ∷ has-bit 5 5 false ∷ has-bit 31 2147483648 true ∷ has-bit 31 2147483647 false ∷ has-bit 32 4294967295 false
     ∷ writing 3 true 5 13 ∷ writing 0 false 5 4 ∷ writing 2 true 5 5
     ∷ agreeing 0 3 5 true ∷ agreeing 1 3 5 false ∷ agreeing 2 1 9 true ∷ agreeing 3 1 9 false ∷ agreeing 30 0 2147483648 true ∷ agreeing 31 0 2147483648 false
-    ∷ inClaim 31 true 0 2147483648 ∷ inClaim 32 true 0 0 ∷ inClaim 0 false 4294967295 4294967294
-    ∷ memberOf 0 1 true ∷ memberOf 31 2147483648 true ∷ memberOf 30 2147483648 false ∷ memberOf 32 4294967295 false
+    ∷ in-claim 31 true 0 2147483648 ∷ in-claim 32 true 0 0 ∷ in-claim 0 false 4294967295 4294967294
+    ∷ has-member 0 1 true ∷ has-member 31 2147483648 true ∷ has-member 30 2147483648 false ∷ has-member 32 4294967295 false
     ∷ inserting 0 2 3 ∷ inserting 31 0 2147483648 ∷ inserting 31 2147483648 2147483648 ∷ inserting 32 5 5 ∷ []
 
 abbrev pub Written-right : Type 0
-Written-right = every right written ≡ true
+Written-right = every example-right written ≡ true

@@ -8,25 +8,25 @@ use lib.Dec.{ltb}
 use Rattle.bits.specs.Digits.{value, lowest, bit}
 
 -- n with bit k made b: bit k is taken out, and b put in its place; every other bit stays
-unfoldable pub withBit : ℕ → Bool → ℕ → ℕ
-withBit k b n = n - value (bit k n) * 2 ^ k + value b * 2 ^ k
+unfoldable pub with-bit : ℕ → Bool → ℕ → ℕ
+with-bit k b n = n - value (bit k n) * 2 ^ k + value b * 2 ^ k
 
 -- the low k + 1 bits of a and b agree: a[k..0] = b[k..0]
-unfoldable pub lowAgree : ℕ → ℕ → ℕ → Bool
-lowAgree zero a b = Bool·beq (bit 0 a) (bit 0 b)
-lowAgree (suc k) a b = Bool·beq (bit (suc k) a) (bit (suc k) b) && lowAgree k a b
+unfoldable pub low-agree : ℕ → ℕ → ℕ → Bool
+low-agree zero a b = Bool·beq (bit 0 a) (bit 0 b)
+low-agree (suc k) a b = Bool·beq (bit (suc k) a) (bit (suc k) b) && low-agree k a b
 
 -- how many bits a claim has: the one place that says it
-abbrev pub claimBits : ℕ
-claimBits = 32
+abbrev pub claim-bits : ℕ
+claim-bits = 32
 
 -- how many stations a mask has room for
-abbrev pub maskBits : ℕ
-maskBits = 32
+abbrev pub mask-bits : ℕ
+mask-bits = 32
 
 -- a word of w bits with bit k made b: a word has no bit at or past its width, and there nothing changes
-unfoldable pub wordWithBit : ℕ → ℕ → Bool → ℕ → ℕ
-wordWithBit w k b n = cond (ltb k w) (withBit k b n) n
+unfoldable pub word-with-bit : ℕ → ℕ → Bool → ℕ → ℕ
+word-with-bit w k b n = cond (ltb k w) (with-bit k b n) n
 
 -- a mask is a set of stations: station s is in it where bit s is 1
 unfoldable pub member : ℕ → ℕ → Bool
@@ -34,29 +34,29 @@ member s mask = bit s mask
 
 -- the mask with station s in it; a station past the mask's room changes nothing
 unfoldable pub insert : ℕ → ℕ → ℕ
-insert s mask = wordWithBit maskBits s true mask
+insert s mask = word-with-bit mask-bits s true mask
 
 -- ---- what reading, writing and comparing mean (paper 000, section 3)
 
-pub record BitLaws : Type 0 where
+pub record Bit-laws : Type 0 where
   -- bits are numbered from the lowest: bit 0 is the lowest digit, and the bits above it are those of the half
   pub lowest-bit : (n : ℕ) → bit 0 n ≡ lowest n
   pub higher-bits : (k n : ℕ) → bit (suc k) n ≡ bit k (n / 2)
   -- "when writing a bit b to j[k], .. the k-th bit j[k] becomes b and all other bits remain unchanged"
-  pub written : (k : ℕ) (b : Bool) (n : ℕ) → bit k (withBit k b n) ≡ b
-  pub unchanged : (k i : ℕ) (b : Bool) (n : ℕ) → (i ≡ k → ⊥) → bit i (withBit k b n) ≡ bit i n
+  pub written : (k : ℕ) (b : Bool) (n : ℕ) → bit k (with-bit k b n) ≡ b
+  pub unchanged : (k i : ℕ) (b : Bool) (n : ℕ) → (i ≡ k → ⊥) → bit i (with-bit k b n) ≡ bit i n
   -- a number is its bits
   pub determined : (a b : ℕ) → ((k : ℕ) → bit k a ≡ bit k b) → a ≡ b
   -- j[k..0] = l[k..0]: each bit up to k is the same
-  pub compared : (k a b : ℕ) → (lowAgree k a b ≡ true) ↔ ((i : ℕ) → i ≤ k → bit i a ≡ bit i b)
+  pub compared : (k a b : ℕ) → (low-agree k a b ≡ true) ↔ ((i : ℕ) → i ≤ k → bit i a ≡ bit i b)
 
 -- a word keeps its width: a bit inside it is written, and past it there is none to write
-pub record WordLaws : Type 0 where
-  pub inside : (w k : ℕ) (b : Bool) (n : ℕ) → k < w → wordWithBit w k b n ≡ withBit k b n
-  pub outside : (w k : ℕ) (b : Bool) (n : ℕ) → w ≤ k → wordWithBit w k b n ≡ n
+pub record Word-laws : Type 0 where
+  pub inside : (w k : ℕ) (b : Bool) (n : ℕ) → k < w → word-with-bit w k b n ≡ with-bit k b n
+  pub outside : (w k : ℕ) (b : Bool) (n : ℕ) → w ≤ k → word-with-bit w k b n ≡ n
 
 -- a mask is a set of the stations below 32
-pub record MaskLaws : Type 0 where
+pub record Mask-laws : Type 0 where
   pub empty : (s : ℕ) → member s 0 ≡ false
   pub put-in : (s mask : ℕ) → s < 32 → member s (insert s mask) ≡ true
   pub others : (s t mask : ℕ) → (s ≡ t → ⊥) → member s (insert t mask) ≡ member s mask

@@ -1,16 +1,16 @@
 // A claim as a word: its length, one bit of it, one bit changed, and low bits compared.
 ghost use mathlib.Core.Path.{_≡_};
-ghost use Rattle.bits.specs.Digits.{bit, bitLength};
-ghost use Rattle.bits.specs.Words.{claimBits, wordWithBit, lowAgree};
+ghost use Rattle.bits.specs.Digits.{bit, bit-length};
+ghost use Rattle.bits.specs.Words.{claim-bits, word-with-bit, low-agree};
 
-// The word that holds a claim. Its width is said here and, for the proofs, by `claimBits` of specs/Words.antt.
+// The word that holds a claim. Its width is said here and, for the proofs, by `claim-bits` of specs/Words.antt.
 pub type Word = u32;
 
 pub const WORD_BITS: u8 = 32;
 
 // How many binary digits x has, and 1 for 0.
 pub fn bit_length(x: Word) -> u8
-    ensures { λ r. ⌜ r ≡ bitLength x ⌝ }
+    ensures { λ r. ⌜ r ≡ bit-length x ⌝ }
 {
     let digits = WORD_BITS - u32::leading_zeros(x) as u8;
     if digits == 0 {
@@ -31,7 +31,7 @@ pub fn bit_at(x: Word, k: u8) -> bool
 
 // x with bit k made b. At or past the width nothing changes.
 pub fn with_bit(x: Word, k: u8, b: bool) -> Word
-    ensures { λ r. ⌜ r ≡ wordWithBit claimBits k b x ⌝ }
+    ensures { λ r. ⌜ r ≡ word-with-bit claim-bits k b x ⌝ }
 {
     if WORD_BITS <= k {
         return x;
@@ -43,7 +43,7 @@ pub fn with_bit(x: Word, k: u8, b: bool) -> Word
 
 // Whether the low k + 1 bits of a and b agree: all bits, where the word has no more.
 pub fn low_bits_agree(a: Word, b: Word, k: u8) -> bool
-    ensures { λ r. ⌜ r ≡ lowAgree k a b ⌝ }
+    ensures { λ r. ⌜ r ≡ low-agree k a b ⌝ }
 {
     if WORD_BITS - 1 <= k {
         return a == b;

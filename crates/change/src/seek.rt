@@ -1,6 +1,6 @@
 // STEP of a seeking station.
 ghost use mathlib.Core.Path.{_≡_};
-ghost use Rattle.event.specs.Step.{next-round, found, sought};
+ghost use Rattle.event.specs.Step.{next-round, entry-after-seek, sought};
 use bits::logarithm::ceil_log2;
 use bits::mask::mask_has;
 use bits::word::low_bits_agree;
@@ -18,8 +18,8 @@ pub(crate) fn next_round(k: u8) -> u8
 }
 
 // Seeking ends at j.
-fn found(v: View, j: u8) -> Station
-    ensures { λ x. ⌜ x ≡ found v j ⌝ }
+fn entry_after_seek(v: View, j: u8) -> Station
+    ensures { λ x. ⌜ x ≡ entry-after-seek v j ⌝ }
 {
     let t = v.own;
     let fitting = v.beside;
@@ -43,7 +43,7 @@ pub fn sought(v: View, j: u8) -> Station
     let fits = mask_has(t.held, j)
         & low_bits_agree(t.word, spelled(v.rule, j, beside.claim), t.round);
     if fits {
-        return found(v, j);
+        return entry_after_seek(v, j);
     }
     moved(t, Stage::Seeking, j, t.round, t.word, t.decision)
 }

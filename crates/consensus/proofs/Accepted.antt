@@ -6,10 +6,10 @@ use mathlib.Core.Logic.{_⊎_, inl, inr, _↔_}
 use mathlib.Core.Bool.{Bool, true, false, _&&_}
 use mathlib.Core.Option.{Option}
 use lib.Dec.{eqb}
-use Rattle.bits.specs.Words.{lowAgree}
-use Rattle.consensus.specs.Events.{Event, claim, deliver, step, lose, answer, History, start, _▷_, Rule, byStation, byClaim, Opening, rounds}
+use Rattle.bits.specs.Words.{low-agree}
+use Rattle.consensus.specs.Events.{Event, claim, deliver, step, lose, answer, History, start, _▷_, Rule, rule-1, rule-2, Opening, rounds}
 use Rattle.consensus.specs.State.{Stage, idle, waiting, voting, awaiting, seeking, finish-voting, finish-awaiting, decided, Station, State, fresh, not-idle, claimed, claim-of, held, answered, bit-of}
-use Rattle.consensus.specs.Rules.{number, finish-ballot, spelled, first-stage, found, sought, finished, claiming, holding, losing, step-from, effect, next, after}
+use Rattle.consensus.specs.Rules.{number, finish-ballot, spelled, first-stage, stage-after-seek, sought, finished, claiming, holding, losing, step-from, effect, next, after}
 use Rattle.consensus.specs.Terms.{Happened, Put-in, Holds, Lost, Answered}
 use Rattle.consensus.proofs.Basics.{update-ind, update-same}
 use Rattle.basics.proofs.Bools.{cond-ind, no-clash}
@@ -66,12 +66,12 @@ abbrev Active : Stage → Type 0
 Active g = not-idle g ≡ true
 
 first-active : (r : Rule) (n s v : ℕ) → Active (first-stage r n s v)
-first-active byStation n s v = cond-ind Active (eqb n 1) (decided v 0) (voting s 0 0) (λ e. refl) (λ e. refl)
-first-active byClaim n s v = refl
+first-active rule-1 n s v = cond-ind Active (eqb n 1) (decided v 0) (voting s 0 0) (λ e. refl) (λ e. refl)
+first-active rule-2 n s v = refl
 
-found-active : (o : Opening) (st : State) (r : Rule) (j k d : ℕ) → Active (found o st r j k d)
-found-active o st byStation j k d = cond-ind Active (eqb (suc k) (rounds o)) (decided (claim-of st j) k) (voting j (suc k) d) (λ e. refl) (λ e. refl)
-found-active o st byClaim j k d = refl
+found-active : (o : Opening) (st : State) (r : Rule) (j k d : ℕ) → Active (stage-after-seek o st r j k d)
+found-active o st rule-1 j k d = cond-ind Active (eqb (suc k) (rounds o)) (decided (claim-of st j) k) (voting j (suc k) d) (λ e. refl) (λ e. refl)
+found-active o st rule-2 j k d = refl
 
 finished-active : (a : Bool) (j k d : ℕ) → Active (finished a j k d)
 finished-active true j k d = refl
@@ -79,7 +79,7 @@ finished-active false j k d = refl
 
 sought-active : (o : Opening) (st : State) (s j k d : ℕ) → Active (sought o st s j k d)
 sought-active o st s j k d =
-    cond-ind Active (held st s j && lowAgree k d (spelled o st j)) (found o st (o .rule) j k d) (seeking j k d)
+    cond-ind Active (held st s j && low-agree k d (spelled o st j)) (stage-after-seek o st (o .rule) j k d) (seeking j k d)
     (λ x. found-active o st (o .rule) j k d)
     (λ x. refl)
 

@@ -11,7 +11,7 @@ use native.Mathlib.Numerals.{add-one}
 use lib.Dec.{leb}
 use lib.ListN.{length, length-append}
 use borrow.Author.Tests.{leb-true, leb-false}
-use Rattle.consensus.specs.Events.{History, Rule, byStation, byClaim, Opening, rounds}
+use Rattle.consensus.specs.Events.{History, Rule, rule-1, rule-2, Opening, rounds}
 use Rattle.consensus.specs.State.{Stage, idle, waiting, voting, awaiting, seeking, finish-voting, finish-awaiting, decided, State, claimed, claim-of}
 use Rattle.consensus.specs.Rules.{finish-ballot, after}
 use Rattle.consensus.specs.Terms.{decision, voted-in, answers-taken, Decided, Put-in, longest}
@@ -43,17 +43,17 @@ not-before o st k m e u =
 
 agreed : (n : ℕ) (r : Rule) (st : State) (v k w m : ℕ) → Decided-by (opening n r) r st v k → Decided-by (opening n r) r st w m
     → (v ≡ w) × (votes-by r (opening n r) (decided v k) ≡ votes-by r (opening n r) (decided w m))
-agreed n byStation st v k w m x y =
-    (sym (x .3) ∙ ap (claim-of st) (word-unique (opening n byStation) st _ _ _ (x .1) (y .1)) ∙ y .3, refl)
-agreed n byClaim st v k w m x y =
-    let same : k ≡ m = le-antisymm (not-before (opening n byClaim) st m k (y .5) (x .4)) (not-before (opening n byClaim) st k m (x .5) (y .4)) in (
-      word-unique (opening n byClaim) st (suc m) v w (subst (λ (i : ℕ). Word (opening n byClaim) st (suc i) v) same (x .1)) (y .1),
+agreed n rule-1 st v k w m x y =
+    (sym (x .3) ∙ ap (claim-of st) (word-unique (opening n rule-1) st _ _ _ (x .1) (y .1)) ∙ y .3, refl)
+agreed n rule-2 st v k w m x y =
+    let same : k ≡ m = le-antisymm (not-before (opening n rule-2) st m k (y .5) (x .4)) (not-before (opening n rule-2) st k m (x .5) (y .4)) in (
+      word-unique (opening n rule-2) st (suc m) v w (subst (λ (i : ℕ). Word (opening n rule-2) st (suc i) v) same (x .1)) (y .1),
       ap (λ (i : ℕ). suc (finish-ballot i)) same,
     )
 
 a-claimer : (o : Opening) (r : Rule) (st : State) (v k : ℕ) → Decided-by o r st v k → (t : ℕ) × (claimed st t ≡ true) × (claim-of st t ≡ v)
-a-claimer o byStation st v k x = (x .0, x .2, x .3)
-a-claimer o byClaim st v k x = (x .0, x .2, x .3)
+a-claimer o rule-1 st v k x = (x .0, x .2, x .3)
+a-claimer o rule-2 st v k x = (x .0, x .2, x .3)
 
 pub length-up-to : (m : ℕ) → length (first-ballots m) ≡ m
 unfolding first-ballots
@@ -106,12 +106,12 @@ module _ (o : Opening) (h : History) where
 
 pub cost-by : (n : ℕ) (r : Rule) (h : History) (p v : ℕ) → Decided (opening n r) p v h
     → Ballots-voted r (rounds (opening n r)) (longest (opening n r) h) (voted-in (opening n r) p h)
-cost-by n byStation h p v d = voted-by (opening n byStation) h p v (decider (opening n byStation) h p v d)
-cost-by n byClaim h p v d =
-    let x = decider (opening n byClaim) h p v d in
+cost-by n rule-1 h p v d = voted-by (opening n rule-1) h p v (decider (opening n rule-1) h p v d)
+cost-by n rule-2 h p v d =
+    let x = decider (opening n rule-2) h p v d in
     let twice : suc (finish-ballot (x .round)) ≡ 2 * suc (x .round) = omega arith in (
       suc (x .round),
-      voted-by (opening n byClaim) h p v x ∙ ap first-ballots twice,
+      voted-by (opening n rule-2) h p v x ∙ ap first-ballots twice,
       (omega arith),
-      round-short (opening n byClaim) refl h (x .round) (x .reason .0) (x .reason .2) (x .reason .4),
+      round-short (opening n rule-2) refl h (x .round) (x .reason .0) (x .reason .2) (x .reason .4),
     )

@@ -8,7 +8,7 @@ use mathlib.Core.Option.{Option, none, some}
 use native.Mathlib.Omega.{arith}
 use lib.Dec.{eqb}
 use Rattle.bits.specs.Digits.{bit}
-use Rattle.bits.specs.Words.{withBit}
+use Rattle.bits.specs.Words.{with-bit}
 use Rattle.consensus.specs.Events.{Opening, ballots}
 use Rattle.consensus.specs.State.{Stage, idle, waiting, voting, awaiting, seeking, finish-voting, finish-awaiting, decided, Station, State, not-idle, claim-of, held, answered, bit-of, with-stage}
 use Rattle.consensus.specs.Rules.{bit-ballot, finish-ballot, spelled, last-refusal, stage-number, first-stage, sought, finished, casting, step-from}
@@ -41,7 +41,7 @@ module _ (o : Opening) (st : State) (s : ℕ) where
   does-at idle = broadcasts waiting
   does-at waiting = cond (held st s s) (goes (first-stage (o .rule) (o .count) s (claim-of st s))) blocked
   does-at (voting j k d) = proposes (bit-ballot o k) (bit k (spelled o st j)) (awaiting j k d)
-  does-at (awaiting j k d) = await (st .answer-of (bit-ballot o k)) (λ a. goes (seeking j k (withBit k a d)))
+  does-at (awaiting j k d) = await (st .answer-of (bit-ballot o k)) (λ a. goes (seeking j k (with-bit k a d)))
   does-at (seeking j k d) = goes (sought o st s ((j + 1) % o .count) k d)
   does-at (finish-voting j k d) = proposes (finish-ballot k) (eqb d (claim-of st j)) (finish-awaiting j k d)
   does-at (finish-awaiting j k d) = await (st .answer-of (finish-ballot k)) (λ a. goes (finished a j k d))
@@ -85,7 +85,7 @@ module _ (o : Opening) (st : State) (s : ℕ) where
   side idle l = λ e. omega arith
   side waiting l = waiting-side (held st s s) _ (st .station s)
   side (voting j k d) l = (refl, refl)
-  side (awaiting j k d) l = awaiting-side (st .answer-of (bit-ballot o k)) (λ a. seeking j k (withBit k a d)) (st .station s)
+  side (awaiting j k d) l = awaiting-side (st .answer-of (bit-ballot o k)) (λ a. seeking j k (with-bit k a d)) (st .station s)
   side (seeking j k d) l = (refl, refl)
   side (finish-voting j k d) l = (refl, refl)
   side (finish-awaiting j k d) l = finish-side (st .answer-of (finish-ballot k)) (finish-ballot k) (λ a. finished a j k d) (st .station s) l
@@ -111,7 +111,7 @@ module _ (o : Opening) (st : State) (s : ℕ) where
   claim-side idle = inl (refl, refl)
   claim-side waiting = inr (refl, quiet-if (held st s s) _)
   claim-side (voting j k d) = inr (refl, tt)
-  claim-side (awaiting j k d) = inr (refl, quiet-await (st .answer-of (bit-ballot o k)) (λ a. seeking j k (withBit k a d)))
+  claim-side (awaiting j k d) = inr (refl, quiet-await (st .answer-of (bit-ballot o k)) (λ a. seeking j k (with-bit k a d)))
   claim-side (seeking j k d) = inr (refl, tt)
   claim-side (finish-voting j k d) = inr (refl, tt)
   claim-side (finish-awaiting j k d) = inr (refl, quiet-await (st .answer-of (finish-ballot k)) (λ a. finished a j k d))

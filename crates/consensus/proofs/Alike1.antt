@@ -11,14 +11,14 @@ use native.Mathlib.Decide.{decLe}
 use lib.Dec.{eqb, ltb}
 use borrow.Author.Tests.{ltb-true, ltb-false, eq-eqb, ne-eqb}
 use Rattle.bits.specs.Digits.{bit}
-use Rattle.bits.specs.Words.{withBit, lowAgree}
-use Rattle.bits.specs.Log.{ceilLog2}
+use Rattle.bits.specs.Words.{with-bit, low-agree}
+use Rattle.bits.specs.Log.{ceil-log2}
 use Rattle.bits.proofs.Digits.{bit-ext, bit-above}
 use Rattle.bits.proofs.Words.{agree-bits}
 use Rattle.bits.proofs.Log.{log-enough, log-least}
-use Rattle.consensus.specs.Events.{Opening, byStation}
+use Rattle.consensus.specs.Events.{Opening, rule-1}
 use Rattle.consensus.specs.State.{Stage, idle, waiting, voting, awaiting, seeking, finish-voting, finish-awaiting, decided, State, claim-of, held}
-use Rattle.consensus.specs.Rules.{first-stage, found}
+use Rattle.consensus.specs.Rules.{first-stage, stage-after-seek}
 use Rattle.consensus.specs.Figure.{View, Does, blocked, goes, await, known, onward, event}
 use Rattle.consensus.specs.Figure1.{Place, line4, line5, line6, line8, in8, line9, line11, line12, returned, line, figure1}
 use Rattle.consensus.specs.Demand2.{place-1}
@@ -26,26 +26,26 @@ use Rattle.consensus.proofs.Invariant.{Stage-ok}
 use Rattle.consensus.proofs.Alike.{Alike, both-blocked, both-go, both-broadcast, both-propose, play-view, does-at}
 
 -- two numbers below 2 ^ r that agree in their low r bits are equal
-same-word : (r k l j : ℕ) → suc k ≡ r → lowAgree k l j ≡ true → ((i : ℕ) → suc k ≤ i → bit i l ≡ false) → j < 2 ^ r → l ≡ j
+same-word : (r k l j : ℕ) → suc k ≡ r → low-agree k l j ≡ true → ((i : ℕ) → suc k ≤ i → bit i l ≡ false) → j < 2 ^ r → l ≡ j
 same-word r k l j e agree above small = bit-ext l j λ i. elim (decLe i k) [ yes le ↦ agree-bits k l j agree i le | no gt ↦ high i (lt-of-not-le gt) ]
   where
     high : (i : ℕ) → suc k ≤ i → bit i l ≡ bit i j
     high i h = above i h ∙ sym (bit-above r j small i (subst (λ (m : ℕ). m ≤ i) e h))
 
 -- one station needs no round, and more need one
-rounds-one : (n : ℕ) → 1 ≤ n → ltb 0 (ceilLog2 n) ≡ false → n ≡ 1
+rounds-one : (n : ℕ) → 1 ≤ n → ltb 0 (ceil-log2 n) ≡ false → n ≡ 1
 rounds-one n some-one e =
-    let h = ltb-false 0 (ceilLog2 n) e in
-    let r : ceilLog2 n ≡ 0 = omega arith in
+    let h = ltb-false 0 (ceil-log2 n) e in
+    let r : ceil-log2 n ≡ 0 = omega arith in
     let m : n ≤ 2 ^ 0 = subst (λ (r : ℕ). n ≤ 2 ^ r) r (log-enough n) in
     omega arith
 
-rounds-more : (n : ℕ) → ltb 0 (ceilLog2 n) ≡ true → n ≡ 1 → ⊥
-rounds-more n e one = let h : 2 ^ 0 < n = log-least n 0 (ltb-true 0 (ceilLog2 n) e) in omega arith
+rounds-more : (n : ℕ) → ltb 0 (ceil-log2 n) ≡ true → n ≡ 1 → ⊥
+rounds-more n e one = let h : 2 ^ 0 < n = log-least n 0 (ltb-true 0 (ceil-log2 n) e) in omega arith
 
 module _ (n : ℕ) (st : State) (s : ℕ) where
   abbrev o : Opening
-  o = record { count = n; rule = byStation }
+  o = record { count = n; rule = rule-1 }
 
   abbrev x : View
   x = play-view o st s
@@ -75,34 +75,34 @@ module _ (n : ℕ) (st : State) (s : ℕ) where
 
   -- lines 5 and 6
   wait-1 : (b : Bool) → b ≡ held st s s → (b ≡ true → s < n) → 1 ≤ n
-      → is (cond b (goes (first-stage byStation n s (claim-of st s))) blocked) (onward figure1 4 x (await (cond b (some (claim-of st s)) none) (λ v. goes line6)))
+      → is (cond b (goes (first-stage rule-1 n s (claim-of st s))) blocked) (onward figure1 4 x (await (cond b (some (claim-of st s)) none) (λ v. goes line6)))
   unfolding onward line
   wait-1 false e l p = both-blocked
   wait-1 true e l p =
-      for-1 1 (eqb n 1) (ltb 0 (ceilLog2 n)) s 0 0 0 (λ more. ne-eqb n 1 (rounds-more n more))
+      for-1 1 (eqb n 1) (ltb 0 (ceil-log2 n)) s 0 0 0 (λ more. ne-eqb n 1 (rounds-more n more))
       (λ less. let one = rounds-one n p less in let small = l refl in (eq-eqb n 1 one, omega arith))
       (sym e)
 
   -- line 10, and 11 where the loop ends
-  until-1 : (b fit : Bool) (j k l : ℕ) → b ≡ held st s j → fit ≡ lowAgree k l j → k < ceilLog2 n → ((i : ℕ) → suc k ≤ i → bit i l ≡ false) → j < n
-      → is (goes (cond (b && fit) (found o st byStation j k l) (seeking j k l)))
+  until-1 : (b fit : Bool) (j k l : ℕ) → b ≡ held st s j → fit ≡ low-agree k l j → k < ceil-log2 n → ((i : ℕ) → suc k ≤ i → bit i l ≡ false) → j < n
+      → is (goes (cond (b && fit) (stage-after-seek o st rule-1 j k l) (seeking j k l)))
       (onward figure1 3 x (goes (cond (known (cond b (some (claim-of st j)) none) && fit) (line11 j k l) (line9 j k l))))
   unfolding onward line
   until-1 false fit j k l e f r above small = both-go refl
   until-1 true false j k l e f r above small = both-go refl
-  until-1 true true j k l e f r above small = for-1 0 (eqb (suc k) (ceilLog2 n)) (ltb (suc k) (ceilLog2 n)) j k (suc k) l on off (sym e)
+  until-1 true true j k l e f r above small = for-1 0 (eqb (suc k) (ceil-log2 n)) (ltb (suc k) (ceil-log2 n)) j k (suc k) l on off (sym e)
     where
-      on : ltb (suc k) (ceilLog2 n) ≡ true → eqb (suc k) (ceilLog2 n) ≡ false
-      on t = let h = ltb-true (suc k) (ceilLog2 n) t in ne-eqb (suc k) (ceilLog2 n) (λ q. omega arith)
+      on : ltb (suc k) (ceil-log2 n) ≡ true → eqb (suc k) (ceil-log2 n) ≡ false
+      on t = let h = ltb-true (suc k) (ceil-log2 n) t in ne-eqb (suc k) (ceil-log2 n) (λ q. omega arith)
 
-      off : ltb (suc k) (ceilLog2 n) ≡ false → (eqb (suc k) (ceilLog2 n) ≡ true) × (l ≡ j)
+      off : ltb (suc k) (ceil-log2 n) ≡ false → (eqb (suc k) (ceil-log2 n) ≡ true) × (l ≡ j)
       off t =
-          let h = ltb-false (suc k) (ceilLog2 n) t in
-          let q : suc k ≡ ceilLog2 n = omega arith in
-          (eq-eqb (suc k) (ceilLog2 n) q, same-word (ceilLog2 n) k l j q (sym f) above (lt-of-lt-of-le small (log-enough n)))
+          let h = ltb-false (suc k) (ceil-log2 n) t in
+          let q : suc k ≡ ceil-log2 n = omega arith in
+          (eq-eqb (suc k) (ceil-log2 n) q, same-word (ceil-log2 n) k l j q (sym f) above (lt-of-lt-of-le small (log-enough n)))
 
   return-8 : (a : Option Bool) (j k l : ℕ)
-      → is (await a (λ b. goes (seeking j k (withBit k b l)))) (onward figure1 4 x (await a (λ b. goes (line9 j k (withBit k b l)))))
+      → is (await a (λ b. goes (seeking j k (with-bit k b l)))) (onward figure1 4 x (await a (λ b. goes (line9 j k (with-bit k b l)))))
   unfolding onward
   return-8 none j k l = both-blocked
   return-8 (some b) j k l = both-go refl
@@ -120,7 +120,7 @@ module _ (n : ℕ) (st : State) (s : ℕ) where
   alike-1 pos (seeking j k l) p mine ok e =
       let next : ℕ = (j + 1) % n in
       stands (line9 j k l) p _ e
-      (until-1 (held st s next) (lowAgree k l next) next k l refl refl (ok .round) (ok .word .above) (mod-lt (j + 1) pos))
+      (until-1 (held st s next) (low-agree k l next) next k l refl refl (ok .round) (ok .word .above) (mod-lt (j + 1) pos))
   alike-1 pos (finish-voting j k d) p mine ok e = absurd (Option·none-ne-some p e)
   alike-1 pos (finish-awaiting j k d) p mine ok e = absurd (Option·none-ne-some p e)
   alike-1 pos (decided v k) p mine ok e = stands (returned (some v)) p _ e both-blocked

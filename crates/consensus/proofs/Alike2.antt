@@ -6,8 +6,8 @@ use mathlib.Core.Bool.{Bool, true, false, cond, _&&_, true≢false}
 use mathlib.Core.Option.{Option, none, some, Option·some-injective}
 use lib.Dec.{eqb}
 use Rattle.bits.specs.Digits.{bit}
-use Rattle.bits.specs.Words.{withBit, lowAgree}
-use Rattle.consensus.specs.Events.{Opening, byClaim}
+use Rattle.bits.specs.Words.{with-bit, low-agree}
+use Rattle.consensus.specs.Events.{Opening, rule-2}
 use Rattle.consensus.specs.State.{Stage, idle, waiting, voting, awaiting, seeking, finish-voting, finish-awaiting, decided, State, claim-of, held}
 use Rattle.consensus.specs.Rules.{finished}
 use Rattle.consensus.specs.Figure.{View, Does, blocked, goes, proposes, await, onward, event}
@@ -18,7 +18,7 @@ use Rattle.consensus.proofs.Alike.{Alike, both-blocked, both-go, both-b
 
 module _ (n : ℕ) (st : State) (s : ℕ) where
   abbrev o : Opening
-  o = record { count = n; rule = byClaim }
+  o = record { count = n; rule = rule-2 }
 
   abbrev x : View
   x = play-view o st s
@@ -38,7 +38,7 @@ module _ (n : ℕ) (st : State) (s : ℕ) where
   vote-2 false v j k d e = absurd (true≢false (sym e))
 
   return-8 : (a : Option Bool) (j k d : ℕ)
-      → is (await a (λ b. goes (seeking j k (withBit k b d)))) (onward figure2 4 x (await a (λ b. goes (line9 j k (withBit k b d)))))
+      → is (await a (λ b. goes (seeking j k (with-bit k b d)))) (onward figure2 4 x (await a (λ b. goes (line9 j k (with-bit k b d)))))
   unfolding onward
   return-8 none j k d = both-blocked
   return-8 (some b) j k d = both-go refl
@@ -50,9 +50,9 @@ module _ (n : ℕ) (st : State) (s : ℕ) where
   until-go false j k d = both-go refl
 
   until-2 : (b : Bool) (v j k d : ℕ)
-      → is (goes (cond (b && lowAgree k d v) (finish-voting j k d) (seeking j k d)))
+      → is (goes (cond (b && low-agree k d v) (finish-voting j k d) (seeking j k d)))
       (onward figure2 3 x (goes (cond (fits k d (cond b (some v) none)) (line11 j k d) (line9 j k d))))
-  until-2 true v j k d = until-go (lowAgree k d v) j k d
+  until-2 true v j k d = until-go (low-agree k d v) j k d
   until-2 false v j k d = until-go false j k d
 
   finish-2 : (b : Bool) (v j k d : ℕ) → b ≡ true

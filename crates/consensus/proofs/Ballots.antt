@@ -9,8 +9,8 @@ use native.Mathlib.Nat.{le-refl}
 use native.Mathlib.Omega.{arith}
 use lib.Dec.{eqb, lit<}
 use borrow.Author.Tests.{ne-eqb}
-use Rattle.bits.specs.Words.{claimBits}
-use Rattle.consensus.specs.Events.{History, Rule, byStation, byClaim, Opening, rounds, ballotsOf, ballots}
+use Rattle.bits.specs.Words.{claim-bits}
+use Rattle.consensus.specs.Events.{History, Rule, rule-1, rule-2, Opening, rounds, ballots-by, ballots}
 use Rattle.consensus.specs.State.{Stage, idle, waiting, voting, awaiting, seeking, finish-voting, finish-awaiting, decided, State}
 use Rattle.consensus.specs.Rules.{bit-ballot, bit-ballot-by, finish-ballot, after}
 use Rattle.consensus.specs.Terms.{Claims-fit}
@@ -26,21 +26,21 @@ pub record In-bounds (o : Opening) (st : State) : Type 0 where
 
 -- by claim a round that a station may be in is below a claim's width
 abbrev pub Short : Opening → State → Type 0
-Short o st = o .rule ≡ byClaim → (k : ℕ) → Unfinished o st k → k < claimBits
+Short o st = o .rule ≡ rule-2 → (k : ℕ) → Unfinished o st k → k < claim-bits
 
 -- a bit is cast only in a ballot that there is
 module _ (o : Opening) (st : State) (short : Short o st) where
-  bit-below-by : (r : Rule) → o .rule ≡ r → (k : ℕ) → Round-by o r st k → bit-ballot-by r k < ballotsOf r (rounds o)
-  bit-below-by byStation e k x = x
-  bit-below-by byClaim e k x = let h = short e k x in omega arith
+  bit-below-by : (r : Rule) → o .rule ≡ r → (k : ℕ) → Round-by o r st k → bit-ballot-by r k < ballots-by r (rounds o)
+  bit-below-by rule-1 e k x = x
+  bit-below-by rule-2 e k x = let h = short e k x in omega arith
 
   pub bit-below : (k : ℕ) → Round o st k → bit-ballot o k < ballots o
   bit-below k x = bit-below-by (o .rule) refl k x
 
-  pub finish-ballot-below : o .rule ≡ byClaim → (k : ℕ) → Unfinished o st k → finish-ballot k < ballots o
+  pub finish-ballot-below : o .rule ≡ rule-2 → (k : ℕ) → Unfinished o st k → finish-ballot k < ballots o
   finish-ballot-below r k u =
       let h = short r k u in
-      subst (λ (q : Rule). finish-ballot k < ballotsOf q (rounds o)) (sym r) (omega arith)
+      subst (λ (q : Rule). finish-ballot k < ballots-by q (rounds o)) (sym r) (omega arith)
 
   pub cast-below : (b : ℕ) (a : Bool) → Cast-ok o st b a → b < ballots o
   cast-below b a (inl c) = subst (λ (i : ℕ). i < ballots o) (sym (c .1)) (bit-below (c .0) (c .2 .round))
@@ -51,7 +51,7 @@ module _ (o : Opening) (h : History) (fit : Claims-fit h) where
   st = after o h
 
   -- a finish ballot answered 0 is not the last one
-  pub finish-below : o .rule ≡ byClaim → (k : ℕ) → st .answer-of (finish-ballot k) ≡ some false → suc k < claimBits
+  pub finish-below : o .rule ≡ rule-2 → (k : ℕ) → st .answer-of (finish-ballot k) ≡ some false → suc k < claim-bits
   finish-below r k e =
       let c = higher-claim o r h k e in
       let short = claim-fits o h fit (c .0) (c .1) in
@@ -72,8 +72,8 @@ module _ (o : Opening) (h : History) (fit : Claims-fit h) where
   not-last-at (finish-voting j k d) holds cast s x = tt
   not-last-at (finish-awaiting j k d) holds cast s x = λ e.
       let h = finish-below (x .0) k e in
-      subst (λ (q : Rule). eqb (suc (finish-ballot k)) (ballotsOf q (rounds o)) ≡ false) (sym (x .0))
-      (ne-eqb (suc (finish-ballot k)) (2 * claimBits) (λ q. omega arith))
+      subst (λ (q : Rule). eqb (suc (finish-ballot k)) (ballots-by q (rounds o)) ≡ false) (sym (x .0))
+      (ne-eqb (suc (finish-ballot k)) (2 * claim-bits) (λ q. omega arith))
   not-last-at (decided v k) holds cast s x = tt
 
   pub in-bounds : In-bounds o st

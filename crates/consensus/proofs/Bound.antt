@@ -10,12 +10,12 @@ use native.Mathlib.Omega.{arith}
 use native.Mathlib.Nat.{le-trans, mod-lt, mod-eq-of-lt, mod-self}
 use lib.Dec.{eqb, leb}
 use borrow.Author.Tests.{eqb-true, eqb-false, leb-true, leb-false}
-use Rattle.bits.specs.Words.{lowAgree}
-use Rattle.bits.specs.Log.{ceilLog2}
+use Rattle.bits.specs.Words.{low-agree}
+use Rattle.bits.specs.Log.{ceil-log2}
 use Rattle.bits.proofs.Words.{bits-agree}
-use Rattle.consensus.specs.Events.{Rule, byStation, byClaim, Opening, rounds}
+use Rattle.consensus.specs.Events.{Rule, rule-1, rule-2, Opening, rounds}
 use Rattle.consensus.specs.State.{Stage, idle, waiting, voting, awaiting, seeking, finish-voting, finish-awaiting, decided, State, claim-of, held}
-use Rattle.consensus.specs.Rules.{spelled, first-stage, found, sought, finished, next}
+use Rattle.consensus.specs.Rules.{spelled, first-stage, stage-after-seek, sought, finished, next}
 use Rattle.basics.proofs.Bools.{by-bool, cond-ind, no-clash}
 use Rattle.consensus.proofs.Invariant.{Fits, Word, Seeking}
 use Rattle.consensus.proofs.Steps.{opening}
@@ -63,8 +63,8 @@ ahead-step n j t l m ne =
 -- ---- how many supplied steps a station may have taken at each stage
 
 abbrev pub cost-of : Rule → ℕ → ℕ
-cost-of byStation n = n + 2
-cost-of byClaim n = n + 4
+cost-of rule-1 n = n + 2
+cost-of rule-2 n = n + 4
 
 -- when round k begins
 abbrev pub begun : Rule → ℕ → ℕ → ℕ
@@ -88,8 +88,8 @@ module _ (o : Opening) where
   Spent-by r st p m (seeking j k d) = (m ≤ begun (o .rule) (o .count) k + 2) ⊎ Nearing st p j k m
   Spent-by r st p m (finish-voting j k d) = m ≤ begun (o .rule) (o .count) k + 2 + o .count
   Spent-by r st p m (finish-awaiting j k d) = m ≤ begun (o .rule) (o .count) k + 3 + o .count
-  Spent-by byStation st p m (decided v k) = m ≤ begun byStation (o .count) (rounds o)
-  Spent-by byClaim st p m (decided v k) = m ≤ begun byClaim (o .count) (suc k)
+  Spent-by rule-1 st p m (decided v k) = m ≤ begun rule-1 (o .count) (rounds o)
+  Spent-by rule-2 st p m (decided v k) = m ≤ begun rule-2 (o .count) (suc k)
 
   abbrev pub Spent : State → ℕ → ℕ → Stage → Type 0
   Spent st p m g = Spent-by (o .rule) st p m g
@@ -106,35 +106,35 @@ advance-le st p m m' (inl l) = omega arith
 advance-le st p m m' (inr l) = l .0
 
 pub first-spent : (n : ℕ) (r : Rule) (st : State) (p s v m : ℕ) → m ≤ 1 → Spent (opening n r) st p m (first-stage r n s v)
-first-spent n byStation st p s v m l =
-    cond-ind (λ (g : Stage). Spent (opening n byStation) st p m g) (eqb n 1) (decided v 0) (voting s 0 0) (λ e. omega arith) (λ e. omega arith)
-first-spent n byClaim st p s v m l = omega arith
+first-spent n rule-1 st p s v m l =
+    cond-ind (λ (g : Stage). Spent (opening n rule-1) st p m g) (eqb n 1) (decided v 0) (voting s 0 0) (λ e. omega arith) (λ e. omega arith)
+first-spent n rule-2 st p s v m l = omega arith
 
-found-spent : (n : ℕ) (r : Rule) (st : State) (p j k d m : ℕ) → m ≤ begun r n k + 2 + n → Spent (opening n r) st p m (found (opening n r) st r j k d)
-found-spent n byStation st p j k d m l =
-    cond-ind (λ (g : Stage). Spent (opening n byStation) st p m g) (eqb (suc k) (ceilLog2 n)) (decided (claim-of st j) k) (voting j (suc k) d)
+found-spent : (n : ℕ) (r : Rule) (st : State) (p j k d m : ℕ) → m ≤ begun r n k + 2 + n → Spent (opening n r) st p m (stage-after-seek (opening n r) st r j k d)
+found-spent n rule-1 st p j k d m l =
+    cond-ind (λ (g : Stage). Spent (opening n rule-1) st p m g) (eqb (suc k) (ceil-log2 n)) (decided (claim-of st j) k) (voting j (suc k) d)
     (λ e.
-    let next : m ≤ begun byStation n (suc k) = omega arith in
-    subst (λ (x : ℕ). m ≤ begun byStation n x) (eqb-true (suc k) (ceilLog2 n) e) next)
+    let next : m ≤ begun rule-1 n (suc k) = omega arith in
+    subst (λ (x : ℕ). m ≤ begun rule-1 n x) (eqb-true (suc k) (ceil-log2 n) e) next)
     (λ e. omega arith)
-found-spent n byClaim st p j k d m l = l
+found-spent n rule-2 st p j k d m l = l
 
-pub finished-spent : (n : ℕ) (a : Bool) (st : State) (p j k d m : ℕ) → m ≤ begun byClaim n k + 4 + n
-    → Spent (opening n byClaim) st p m (finished a j k d)
+pub finished-spent : (n : ℕ) (a : Bool) (st : State) (p j k d m : ℕ) → m ≤ begun rule-2 n k + 4 + n
+    → Spent (opening n rule-2) st p m (finished a j k d)
 finished-spent n true st p j k d m l = omega arith
 finished-spent n false st p j k d m l = omega arith
 
 module _ (o : Opening) (st : State) (p : ℕ) (below : p < o .count) where
   -- the cursor is not at a claim that is held and fits, where the test there failed
-  not-there : (j k d t : ℕ) → Word o st (suc k) d → held st p t ≡ true → Fits o st (suc k) t → (held st p j && lowAgree k d (spelled o st j)) ≡ false
+  not-there : (j k d t : ℕ) → Word o st (suc k) d → held st p t ≡ true → Fits o st (suc k) t → (held st p j && low-agree k d (spelled o st j)) ≡ false
       → j ≡ t → ⊥
-  not-there j k d t w h f e q = no-clash (held st p j && lowAgree k d (spelled o st j)) passed e
+  not-there j k d t w h f e q = no-clash (held st p j && low-agree k d (spelled o st j)) passed e
     where
-      agree : lowAgree k d (spelled o st t) ≡ true
+      agree : low-agree k d (spelled o st t) ≡ true
       agree = bits-agree k d (spelled o st t) (λ i l. Option·some-injective _ _ (sym (w .answers i (suc-le-suc l)) ∙ f i (suc-le-suc l)))
 
-      passed : (held st p j && lowAgree k d (spelled o st j)) ≡ true
-      passed = subst (λ (x : ℕ). (held st p x && lowAgree k d (spelled o st x)) ≡ true) (sym q) (subst (λ (b : Bool). (b && lowAgree k d (spelled o st t)) ≡ true) (sym h) agree)
+      passed : (held st p j && low-agree k d (spelled o st j)) ≡ true
+      passed = subst (λ (x : ℕ). (held st p x && low-agree k d (spelled o st x)) ≡ true) (sym q) (subst (λ (b : Bool). (b && low-agree k d (spelled o st t)) ≡ true) (sym h) agree)
 
   module _ (holds : (t : ℕ) → held st p t ≡ true → t < o .count) (j k d m m' : ℕ) (x : Seeking o st j k d) (a : Advance st p m m') where
     abbrev cursor : ℕ
@@ -151,7 +151,7 @@ module _ (o : Opening) (st : State) (p : ℕ) (below : p < o .count) where
         let l = y .left in
         omega arith
 
-    seek-on : (held st p cursor && lowAgree k d (spelled o st cursor)) ≡ false → Spent o st p m (seeking j k d) → Spent o st p m' (seeking cursor k d)
+    seek-on : (held st p cursor && low-agree k d (spelled o st cursor)) ≡ false → Spent o st p m (seeking j k d) → Spent o st p m' (seeking cursor k d)
     seek-on e (inl l) = go a
       where
         go : Advance st p m m' → Spent o st p m' (seeking cursor k d)
@@ -184,6 +184,6 @@ module _ (o : Opening) (st : State) (p : ℕ) (below : p < o .count) where
 
     pub sought-spent : Spent o st p m (seeking j k d) → Spent o st p m' (sought o st p cursor k d)
     sought-spent z =
-        cond-ind (λ (g : Stage). Spent o st p m' g) (held st p cursor && lowAgree k d (spelled o st cursor)) (found o st (o .rule) cursor k d) (seeking cursor k d)
+        cond-ind (λ (g : Stage). Spent o st p m' g) (held st p cursor && low-agree k d (spelled o st cursor)) (stage-after-seek o st (o .rule) cursor k d) (seeking cursor k d)
         (λ e. found-spent (o .count) (o .rule) st p cursor k d m' (seek-found z))
         (λ e. seek-on e z)

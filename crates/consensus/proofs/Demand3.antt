@@ -6,10 +6,10 @@ use mathlib.Core.Logic.{inl, inr, _↔_}
 use mathlib.Core.Bool.{Bool, true, false, not, _&&_}
 use mathlib.Core.Option.{Option, none, some, Option·none-ne-some, Option·some-injective}
 use native.Mathlib.Omega.{arith}
-use Rattle.bits.specs.Digits.{bit, bitLength, binaryDigits, digitsIn}
-use Rattle.bits.specs.Words.{withBit, lowAgree}
-use Rattle.bits.specs.Log.{ceilLog2, leastFrom}
-use Rattle.consensus.specs.Events.{Event, History, start, _▷_, Rule, byStation, byClaim, Opening, rounds}
+use Rattle.bits.specs.Digits.{bit, bit-length, binary-digits, digits-in}
+use Rattle.bits.specs.Words.{with-bit, low-agree}
+use Rattle.bits.specs.Log.{ceil-log2, least-from}
+use Rattle.consensus.specs.Events.{Event, History, start, _▷_, Rule, rule-1, rule-2, Opening, rounds}
 use Rattle.consensus.specs.State.{State, held, answered, update}
 use Rattle.consensus.specs.Rules.{stage-number, number, step-from, effect, next, after}
 use Rattle.basics.specs.Below.{any-below}
@@ -186,20 +186,20 @@ module _ (n : ℕ) (r : Rule) (h : History) where
     no-fewer = λ i l s. let same = counted-once o h 0 i m s (counted-as m (e .0)) in omega arith;
   }
 
-counts : Counts 2 byStation lone-by-station 5 × Counts 3 byStation lone-of-three 11 × Counts 1 byClaim lone-by-claim 6 × Counts 3 byClaim lone-two-bits 15
-unfolding counted one-more takes-told supplied-told own-told all-told answers-told lacks by-bool waits-on longest bitLength bit binaryDigits digitsIn withBit lowAgree ceilLog2 leastFrom update any-below stage-number number step-from effect next after
+counts : Counts 2 rule-1 lone-by-station 5 × Counts 3 rule-1 lone-of-three 11 × Counts 1 rule-2 lone-by-claim 6 × Counts 3 rule-2 lone-two-bits 15
+unfolding counted one-more takes-told supplied-told own-told all-told answers-told lacks by-bool waits-on longest bit-length bit binary-digits digits-in with-bit low-agree ceil-log2 least-from update any-below stage-number number step-from effect next after
 counts = ((refl, refl), (refl, refl), (refl, refl), (refl, refl))
 
-held-or-not : (counted (opening 2 byStation) beside-a-lost-claim 0 .0 ≡ 5) × (counted (opening 2 byStation) lacking-a-held-claim 0 .0 ≡ 0)
-unfolding counted one-more takes-told supplied-told own-told all-told answers-told lacks by-bool waits-on bit binaryDigits digitsIn withBit lowAgree ceilLog2 leastFrom update any-below stage-number number step-from effect next after
+held-or-not : (counted (opening 2 rule-1) beside-a-lost-claim 0 .0 ≡ 5) × (counted (opening 2 rule-1) lacking-a-held-claim 0 .0 ≡ 0)
+unfolding counted one-more takes-told supplied-told own-told all-told answers-told lacks by-bool waits-on bit binary-digits digits-in with-bit low-agree ceil-log2 least-from update any-below stage-number number step-from effect next after
 held-or-not = (refl, refl)
 
 pub bounds-met : Bounds-met
 bounds-met = record {
-  by-station = meets 2 byStation lone-by-station 5 (counts .0);
-  by-station-3 = meets 3 byStation lone-of-three 11 (counts .1);
-  by-claim = meets 1 byClaim lone-by-claim 6 (counts .2);
-  by-claim-3 = meets 3 byClaim lone-two-bits 15 (counts .3);
-  nobody-holds = counted-as 2 byStation beside-a-lost-claim 5 (held-or-not .0);
-  somebody-holds = counted-as 2 byStation lacking-a-held-claim 0 (held-or-not .1);
+  by-station = meets 2 rule-1 lone-by-station 5 (counts .0);
+  by-station-3 = meets 3 rule-1 lone-of-three 11 (counts .1);
+  by-claim = meets 1 rule-2 lone-by-claim 6 (counts .2);
+  by-claim-3 = meets 3 rule-2 lone-two-bits 15 (counts .3);
+  nobody-holds = counted-as 2 rule-1 beside-a-lost-claim 5 (held-or-not .0);
+  somebody-holds = counted-as 2 rule-1 lacking-a-held-claim 0 (held-or-not .1);
 }

@@ -5,11 +5,11 @@ use mathlib.Core.List.{List, [], _∷_}
 use native.Mathlib.Nat.{le-antisymm}
 use native.Mathlib.Omega.{arith}
 use lib.ListN.{length, getD}
-use Rattle.bits.specs.Digits.{bit, bitLength, binaryDigits, digitsIn}
-use Rattle.bits.specs.Words.{withBit, lowAgree}
-use Rattle.bits.specs.Log.{ceilLog2, leastFrom}
+use Rattle.bits.specs.Digits.{bit, bit-length, binary-digits, digits-in}
+use Rattle.bits.specs.Words.{with-bit, low-agree}
+use Rattle.bits.specs.Log.{ceil-log2, least-from}
 use Rattle.basics.specs.Below.{any-below}
-use Rattle.consensus.specs.Events.{byStation, byClaim}
+use Rattle.consensus.specs.Events.{rule-1, rule-2}
 use Rattle.consensus.specs.State.{update}
 use Rattle.consensus.specs.Rules.{stage-number, number, step-from, effect, next, after}
 use Rattle.consensus.specs.Terms.{first-answer, voted-in, waits-on, answers-taken, longest}
@@ -20,7 +20,7 @@ use Rattle.consensus.proofs.Told.{shown-decided}
 use Rattle.consensus.proofs.Agree.{length-up-to}
 
 pub openings : Openings
-unfolding ceilLog2 leastFrom
+unfolding ceil-log2 least-from
 openings = record {
   least = λ r. record { some-station = omega arith; not-too-many = omega arith };
   most = λ r. record { some-station = omega arith; not-too-many = omega arith };
@@ -32,7 +32,7 @@ openings = record {
 }
 
 pub longest-claims : Longest-claims
-unfolding longest bitLength binaryDigits digitsIn update number effect next after
+unfolding longest bit-length binary-digits digits-in update number effect next after
 longest-claims = record { nothing = λ r. refl; of-zero = λ r. refl; refused = λ r. refl; whole = λ r. refl; n-17 = λ r. refl; n-32 = λ r. refl }
 
 pub bounds : Bounds
@@ -44,7 +44,7 @@ ballots-in : (m : ℕ) (l : List ℕ) → l ≡ first-ballots m → length l ≡
 ballots-in m l e = ap length e ∙ length-up-to m
 
 -- so many ballots are none by claim, unless they are an even number from 2 to twice K
-not-by-claim : (r k : ℕ) (l : List ℕ) → ((m : ℕ) → length l ≡ 2 * m → 1 ≤ m → m ≤ k → ⊥) → Ballots-voted byClaim r k l → ⊥
+not-by-claim : (r k : ℕ) (l : List ℕ) → ((m : ℕ) → length l ≡ 2 * m → 1 ≤ m → m ≤ k → ⊥) → Ballots-voted rule-2 r k l → ⊥
 not-by-claim r k l f x = f (x .0) (ballots-in (2 * x .0) l (x .1)) (x .2) (x .3)
 
 -- twice ballot 0 is not the ballots 0 and 1
@@ -54,11 +54,11 @@ not-twice m e l u =
     let second : _≡_ {A = ℕ} 0 1 = ap (λ (x : List ℕ). getD x 1 0) (e ∙ ap (λ (i : ℕ). first-ballots (2 * i)) (le-antisymm u l)) in omega arith
 
 pub costs-met : Costs-met
-unfolding first-ballots voted-in longest bit bitLength binaryDigits digitsIn withBit lowAgree ceilLog2 leastFrom update any-below stage-number number step-from effect next after
+unfolding first-ballots voted-in longest bit bit-length binary-digits digits-in with-bit low-agree ceil-log2 least-from update any-below stage-number number step-from effect next after
 costs-met = record {
-  exactly = record { decided = shown-decided (opening 3 byStation) 0 7 lone-of-three refl; voted-so = refl; K = refl };
-  twice-K = record { decided = shown-decided (opening 3 byClaim) 0 2 lone-two-bits refl; voted-so = refl; K = refl };
-  from-2 = record { decided = shown-decided (opening 2 byClaim) 0 1 case-C refl; voted-so = refl; K = refl };
+  exactly = record { decided = shown-decided (opening 3 rule-1) 0 7 lone-of-three refl; voted-so = refl; K = refl };
+  twice-K = record { decided = shown-decided (opening 3 rule-2) 0 2 lone-two-bits refl; voted-so = refl; K = refl };
+  from-2 = record { decided = shown-decided (opening 2 rule-2) 0 1 case-C refl; voted-so = refl; K = refl };
   two = λ r. (1, refl, omega arith, omega arith);
   four = λ r. (2, refl, omega arith, omega arith);
   not-none = λ r. not-by-claim r 2 [] (λ m e l u. omega arith);
@@ -73,7 +73,7 @@ costs-met = record {
 -- ---- two stations apart
 
 pub sameness : Sameness
-unfolding first-answer voted-in waits-on answers-taken bit binaryDigits digitsIn withBit lowAgree ceilLog2 leastFrom update any-below stage-number number step-from effect next after
+unfolding first-answer voted-in waits-on answers-taken bit binary-digits digits-in with-bit low-agree ceil-log2 least-from update any-below stage-number number step-from effect next after
 sameness = record {
   answers = refl;
   other-claim = λ x. let e = x .claim in omega arith;

@@ -5,7 +5,7 @@ use mathlib.Core.Path.{_≡_, refl, sym, subst, ap, _∙_, fun-ext}
 use mathlib.Core.Bool.{Bool, true, false, cond}
 use mathlib.Core.Option.{Option, some, Option·some-injective, Option·none-ne-some}
 use borrow.Author.Tests.{ne-eqb}
-use Rattle.consensus.specs.Events.{Event, claim, deliver, step, lose, answer, History, start, _▷_, Rule, byStation, byClaim, Opening, Openable}
+use Rattle.consensus.specs.Events.{Event, claim, deliver, step, lose, answer, History, start, _▷_, Rule, rule-1, rule-2, Opening, Openable}
 use Rattle.consensus.specs.State.{Stage, State, idle, finish-voting, held}
 use Rattle.consensus.specs.Rules.{number, effect, next, after}
 use Rattle.consensus.specs.Terms.{Claims-fit}
@@ -20,8 +20,8 @@ use Rattle.consensus.proofs.Ballots.{in-bounds}
 use Rattle.consensus.proofs.Shown.{Judged, verdict}
 
 first-shown : (r : Rule) → place-by r idle ≡ some (figure-by r .first)
-first-shown byStation = refl
-first-shown byClaim = refl
+first-shown rule-1 = refl
+first-shown rule-2 = refl
 
 next-refused : (o : Opening) (st : State) (e : Event) → (number o st e ≡ 0 → ⊥) → next o st e ≡ st
 unfolding next

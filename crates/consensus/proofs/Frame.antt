@@ -8,7 +8,7 @@ use Rattle.consensus.specs.Events.{Event, claim, deliver, step, lose, an
 use Rattle.consensus.specs.State.{Stage, idle, waiting, voting, awaiting, seeking, finish-voting, finish-awaiting, decided, Station, State, claim-of, held}
 use Rattle.consensus.specs.Rules.{step-from, claiming, holding, losing, effect, next}
 use Rattle.consensus.specs.Terms.{ballot-at}
-use Rattle.consensus.specs.Frame.{Stays, Frame}
+use Rattle.consensus.specs.Frame.{Stays, Play-frame}
 use Rattle.consensus.proofs.Basics.{update-ind}
 use Rattle.consensus.proofs.Reached.{next-ind}
 use Rattle.consensus.proofs.Accepted.{step-rest, part-ind}
@@ -83,5 +83,5 @@ module _ (o : Opening) (st : State) (e : Event) where
         next-ind (λ (x : State). (x .answer-of b ≡ st .answer-of b) ⊎ ((a : ℕ) × (e ≡ answer b a))) o st e (inl refl) (λ n. effect-answers o st b e);
   }
 
-pub frame : Frame
+pub frame : Play-frame
 frame = record { stays = stays }

@@ -6,7 +6,7 @@ use mathlib.Core.Logic.{inl, inr}
 use mathlib.Core.Bool.{Bool, true}
 use mathlib.Core.Option.{Option, some}
 use Rattle.bits.specs.Digits.{bit}
-use Rattle.consensus.specs.Events.{Rule, byStation, byClaim, Opening}
+use Rattle.consensus.specs.Events.{Rule, rule-1, rule-2, Opening}
 use Rattle.consensus.specs.State.{Stage, idle, waiting, voting, awaiting, seeking, finish-voting, finish-awaiting, decided, State, claimed, claim-of, held}
 use Rattle.consensus.specs.Rules.{spelled, spelled-by}
 use Rattle.consensus.proofs.Invariant.{Fits, Word, Candidate, Unfinished, Round, Round-by, Bit-cast, Finish-cast, Cast-ok, Spelling, Decided-by, Stage-ok, Part-ok}
@@ -22,8 +22,8 @@ grows-refl st = record { claims = λ s e. (e, refl); helds = λ s t e. e; answer
 
 module _ (o : Opening) (st st' : State) (g : Grows st st') where
   spelled-grows-by : (r : Rule) (t : ℕ) → claimed st t ≡ true → spelled-by r st' t ≡ spelled-by r st t
-  spelled-grows-by byStation t e = refl
-  spelled-grows-by byClaim t e = g .claims t e .1
+  spelled-grows-by rule-1 t e = refl
+  spelled-grows-by rule-2 t e = g .claims t e .1
 
   pub spelled-grows : (t : ℕ) → claimed st t ≡ true → spelled o st' t ≡ spelled o st t
   spelled-grows t e = spelled-grows-by (o .rule) t e
@@ -46,8 +46,8 @@ module _ (o : Opening) (st st' : State) (g : Grows st st') where
   unfinished-grows k u i l = g .answers _ _ (u i l)
 
   round-grows-by : (r : Rule) (k : ℕ) → Round-by o r st k → Round-by o r st' k
-  round-grows-by byStation k x = x
-  round-grows-by byClaim k x = unfinished-grows k x
+  round-grows-by rule-1 k x = x
+  round-grows-by rule-2 k x = unfinished-grows k x
 
   pub round-grows : (k : ℕ) → Round o st k → Round o st' k
   round-grows k x = round-grows-by (o .rule) k x
@@ -87,8 +87,8 @@ module _ (o : Opening) (st st' : State) (g : Grows st st') where
   }
 
   decided-grows-by : (r : Rule) (v k : ℕ) → Decided-by o r st v k → Decided-by o r st' v k
-  decided-grows-by byStation v k x = (x .0, word-grows _ _ (x .1), g .claims _ (x .2) .0, g .claims _ (x .2) .1 ∙ x .3)
-  decided-grows-by byClaim v k x =
+  decided-grows-by rule-1 v k x = (x .0, word-grows _ _ (x .1), g .claims _ (x .2) .0, g .claims _ (x .2) .1 ∙ x .3)
+  decided-grows-by rule-2 v k x =
       (x .0, word-grows _ _ (x .1), g .claims _ (x .2) .0, g .claims _ (x .2) .1 ∙ x .3, unfinished-grows k (x .4), g .answers _ _ (x .5))
 
   stage-grows : (s : Stage) (holds : ℕ → Bool) (cast : ℕ → Option Bool) → Held-claimed holds → Stage-ok o st s holds cast

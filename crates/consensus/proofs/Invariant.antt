@@ -8,7 +8,7 @@ use mathlib.Core.Bool.{Bool, true, false}
 use mathlib.Core.Option.{Option, none, some}
 use lib.Dec.{eqb}
 use Rattle.bits.specs.Digits.{bit}
-use Rattle.consensus.specs.Events.{Rule, byStation, byClaim, Opening, rounds}
+use Rattle.consensus.specs.Events.{Rule, rule-1, rule-2, Opening, rounds}
 use Rattle.consensus.specs.State.{Stage, idle, waiting, voting, awaiting, seeking, finish-voting, finish-awaiting, decided, State, claimed, claim-of, held}
 use Rattle.consensus.specs.Rules.{bit-ballot, finish-ballot, spelled}
 
@@ -21,8 +21,8 @@ votes-by r o (awaiting j k d) = suc (bit-ballot o k)
 votes-by r o (seeking j k d) = suc (bit-ballot o k)
 votes-by r o (finish-voting j k d) = finish-ballot k
 votes-by r o (finish-awaiting j k d) = suc (finish-ballot k)
-votes-by byStation o (decided v k) = rounds o
-votes-by byClaim o (decided v k) = suc (finish-ballot k)
+votes-by rule-1 o (decided v k) = rounds o
+votes-by rule-2 o (decided v k) = suc (finish-ballot k)
 
 module _ (o : Opening) where
   abbrev pub votes : Stage → ℕ
@@ -50,8 +50,8 @@ module _ (o : Opening) where
 
   -- the round k is one that a station may be in
   abbrev pub Round-by : Rule → State → ℕ → Type 0
-  Round-by byStation st k = k < rounds o
-  Round-by byClaim st k = Unfinished st k
+  Round-by rule-1 st k = k < rounds o
+  Round-by rule-2 st k = Unfinished st k
 
   abbrev pub Round : State → ℕ → Type 0
   Round st k = Round-by (o .rule) st k
@@ -72,7 +72,7 @@ module _ (o : Opening) where
     pub unfinished : Unfinished st k
 
   abbrev pub Cast-ok : State → ℕ → Bool → Type 0
-  Cast-ok st b a = ((k : ℕ) × (b ≡ bit-ballot o k) × Bit-cast st k a) ⊎ ((o .rule ≡ byClaim) × ((k : ℕ) × (b ≡ finish-ballot k) × Finish-cast st k a))
+  Cast-ok st b a = ((k : ℕ) × (b ≡ bit-ballot o k) × Bit-cast st k a) ⊎ ((o .rule ≡ rule-2) × ((k : ℕ) × (b ≡ finish-ballot k) × Finish-cast st k a))
 
   -- before the bit ballot of round k: the word is the answers so far, and the cursor's claim is held and fits
   pub record Spelling (st : State) (holds : ℕ → Bool) (j k m d : ℕ) : Type 0 where
@@ -90,8 +90,8 @@ module _ (o : Opening) where
 
   -- by station the word names the claimer; by claim the word is a claim and this round was the last
   abbrev pub Decided-by : Rule → State → ℕ → ℕ → Type 0
-  Decided-by byStation st v k = (l : ℕ) × Word st (rounds o) l × (claimed st l ≡ true) × (claim-of st l ≡ v)
-  Decided-by byClaim st v k =
+  Decided-by rule-1 st v k = (l : ℕ) × Word st (rounds o) l × (claimed st l ≡ true) × (claim-of st l ≡ v)
+  Decided-by rule-2 st v k =
       (t : ℕ) × Word st (suc k) v × (claimed st t ≡ true) × (claim-of st t ≡ v) × Unfinished st k × (st .answer-of (finish-ballot k) ≡ some true)
 
   -- what holds of a station at a stage, with the claims it holds and the bits it cast
@@ -101,9 +101,9 @@ module _ (o : Opening) where
   Stage-ok st (voting j k d) holds cast = Spelling st holds j k k d
   Stage-ok st (awaiting j k d) holds cast = Spelling st holds j k k d × (cast (bit-ballot o k) ≡ some (bit k (spelled o st j)))
   Stage-ok st (seeking j k d) holds cast = Seeking st j k d
-  Stage-ok st (finish-voting j k d) holds cast = (o .rule ≡ byClaim) × Spelling st holds j k (suc k) d
+  Stage-ok st (finish-voting j k d) holds cast = (o .rule ≡ rule-2) × Spelling st holds j k (suc k) d
   Stage-ok st (finish-awaiting j k d) holds cast =
-      (o .rule ≡ byClaim) × Spelling st holds j k (suc k) d × (cast (finish-ballot k) ≡ some (eqb d (claim-of st j)))
+      (o .rule ≡ rule-2) × Spelling st holds j k (suc k) d × (cast (finish-ballot k) ≡ some (eqb d (claim-of st j)))
   Stage-ok st (decided v k) holds cast = Decided-by (o .rule) st v k
 
   -- a station's own part

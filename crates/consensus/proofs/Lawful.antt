@@ -5,9 +5,9 @@ use mathlib.Core.Path.{_≡_, refl, sym, subst, ap, _∙_}
 use mathlib.Core.Bool.{Bool, true, false, cond, _&&_, true≢false}
 use mathlib.Core.Option.{Option, none, some}
 use lib.Dec.{ltb, lit≤}
-use Rattle.bits.specs.Words.{lowAgree}
-use Rattle.bits.specs.Log.{ceilLog2}
-use Rattle.consensus.specs.Events.{Rule, byStation, byClaim}
+use Rattle.bits.specs.Words.{low-agree}
+use Rattle.bits.specs.Log.{ceil-log2}
+use Rattle.consensus.specs.Events.{Rule, rule-1, rule-2}
 use Rattle.consensus.specs.Figure.{View, Does, blocked, goes, broadcasts, proposes, await, known, Figure}
 use Rattle.consensus.specs.Figure1 as one
 use Rattle.consensus.specs.Figure2 as two
@@ -103,8 +103,8 @@ Ready-2 f (two.line15 d) = Unit {0}
 Ready-2 f (two.returned v) = Unit {0}
 
 abbrev pub Ready-by : (r : Rule) → (ℕ → Option ℕ) → figure-by r .Place → Type 0
-Ready-by byStation f p = Unit {0}
-Ready-by byClaim f p = Ready-2 f p
+Ready-by rule-1 f p = Unit {0}
+Ready-by rule-2 f p = Ready-2 f p
 
 no-stop : {C : Type 0} → true ≡ false → C
 no-stop e = absurd (true≢false e)
@@ -144,12 +144,12 @@ falls-1 x one.line4 = tt
 falls-1 x one.line5 = await-falls one.figure1 rank-1 one.line5 (x .prop (x .self)) (λ v. goes one.line6) (λ v e. lit≤ tt)
 falls-1 x one.line6 = λ e. lit≤ tt
 falls-1 x (one.line7 j k l) =
-    test-falls one.figure1 rank-1 (one.line7 j k l) (ltb k (ceilLog2 (x .count))) (one.line8 j k l) (one.line12 l) no-stop (λ e. lit≤ tt)
+    test-falls one.figure1 rank-1 (one.line7 j k l) (ltb k (ceil-log2 (x .count))) (one.line8 j k l) (one.line12 l) no-stop (λ e. lit≤ tt)
 falls-1 x (one.line8 j k l) = tt
 falls-1 x (one.in8 j k l) = await-falls one.figure1 rank-1 (one.in8 j k l) (x .decided k) _ (λ a. no-stop)
 falls-1 x (one.line9 j k l) = λ e. lit≤ tt
 falls-1 x (one.line10 j k l) =
-    test-falls one.figure1 rank-1 (one.line10 j k l) (known (x .prop j) && lowAgree k l j) (one.line11 j k l) (one.line9 j k l) (λ e. lit≤ tt)
+    test-falls one.figure1 rank-1 (one.line10 j k l) (known (x .prop j) && low-agree k l j) (one.line11 j k l) (one.line9 j k l) (λ e. lit≤ tt)
     no-stop
 falls-1 x (one.line11 j k l) = λ e. lit≤ tt
 falls-1 x (one.line12 l) = no-stop
@@ -159,7 +159,7 @@ known-more : {A : Type 0} (a b : Option A) (t : Bool) → ((v : A) → a ≡ som
 known-more none b t m e = absurd (true≢false (sym e))
 known-more (some v) b t m e = subst (λ y. (known y && t) ≡ true) (sym (m v refl)) e
 
-steady-1 : (i n : ℕ) (f g : ℕ → Option ℕ) (d e : ℕ → Option Bool) → More f g → More d e → (p : one.Place) → Ready-by byStation f p
+steady-1 : (i n : ℕ) (f g : ℕ → Option ℕ) (d e : ℕ → Option Bool) → More f g → More d e → (p : one.Place) → Ready-by rule-1 f p
     → Keeps one.figure1 (one.line (seen i n f d) p) (one.line (seen i n g e) p)
 unfolding one.line
 steady-1 i n f g d e m w one.line4 t = tt
@@ -170,8 +170,8 @@ steady-1 i n f g d e m w (one.line8 j k l) t = tt
 steady-1 i n f g d e m w (one.in8 j k l) t = await-keeps one.figure1 (d k) (e k) _ (w k)
 steady-1 i n f g d e m w (one.line9 j k l) t = λ q. refl
 steady-1 i n f g d e m w (one.line10 j k l) t =
-    test-keeps one.figure1 (known (f j) && lowAgree k l j) (known (g j) && lowAgree k l j) (one.line11 j k l) (one.line9 j k l)
-    (known-more (f j) (g j) (lowAgree k l j) (m j))
+    test-keeps one.figure1 (known (f j) && low-agree k l j) (known (g j) && low-agree k l j) (one.line11 j k l) (one.line9 j k l)
+    (known-more (f j) (g j) (low-agree k l j) (m j))
     refl
 steady-1 i n f g d e m w (one.line11 j k l) t = λ q. refl
 steady-1 i n f g d e m w (one.line12 l) t = no-stop
@@ -256,7 +256,7 @@ until-keeps : (a b : Bool) (j k d : ℕ)
 until-keeps true b j k d = no-stop
 until-keeps false b j k d = no-stop
 
-steady-2 : (i n : ℕ) (f g : ℕ → Option ℕ) (c e : ℕ → Option Bool) → More f g → More c e → (p : two.Place) → Ready-by byClaim f p
+steady-2 : (i n : ℕ) (f g : ℕ → Option ℕ) (c e : ℕ → Option Bool) → More f g → More c e → (p : two.Place) → Ready-by rule-2 f p
     → Keeps two.figure2 (two.line (seen i n f c) p) (two.line (seen i n g e) p)
 unfolding two.line
 steady-2 i n f g c e m w two.line4 t = tt
@@ -311,5 +311,5 @@ ready-2 f (two.line15 d) e = tt
 ready-2 f (two.returned v) e = tt
 
 pub lawful : (r : Rule) → Lawful (figure-by r) (Ready-by r)
-lawful byStation = record { rank = rank-1; most = most-1; falls = falls-1; steady = steady-1; moving = moving-1; ready = λ f p e. tt }
-lawful byClaim = record { rank = rank-2; most = most-2; falls = falls-2; steady = steady-2; moving = moving-2; ready = ready-2 }
+lawful rule-1 = record { rank = rank-1; most = most-1; falls = falls-1; steady = steady-1; moving = moving-1; ready = λ f p e. tt }
+lawful rule-2 = record { rank = rank-2; most = most-2; falls = falls-2; steady = steady-2; moving = moving-2; ready = ready-2 }

@@ -1,5 +1,6 @@
--- Proofs about the play. First, computed: the lists that tell the four false readings apart; the play's numbers and STEPs as literals.
+-- Proofs about the play. First, computed: the lists that tell the four false readings apart; figure 2 misread; the play's numbers and STEPs as literals.
 pub mod Examples
+pub mod Misread
 pub mod Rows
 -- What holds of every state reached:
 --     Basics       cases on Bools, updates, refusals

@@ -7,8 +7,8 @@ use mathlib.Core.Option.{Option, none, some}
 use native.Mathlib.Omega.{arith}
 use lib.Dec.{eqb, ltb}
 use borrow.Author.Tests.{eqb-false, ne-eqb, lt-ltb}
-use Rattle.bits.specs.Words.{claimBits}
-use Rattle.consensus.specs.Events.{Event, claim, deliver, step, lose, answer, History, Rule, byClaim, Opening, rounds, ballots, ballotsOf}
+use Rattle.bits.specs.Words.{claim-bits}
+use Rattle.consensus.specs.Events.{Event, claim, deliver, step, lose, answer, History, Rule, rule-2, Opening, rounds, ballots, ballots-by}
 use Rattle.consensus.specs.State.{Stage, idle, waiting, voting, awaiting, seeking, finish-voting, finish-awaiting, decided, not-idle, claimed, held, answered}
 use Rattle.consensus.specs.Rules.{bit-ballot, finish-ballot, no-station, was-cast, as-bit, last-refusal, stage-number, number, after}
 use Rattle.basics.specs.Tests.{refuse}
@@ -30,14 +30,14 @@ not-true b f = by-bool b (λ e. absurd (f e)) (λ e. e)
 
 module _ (o : Opening) (h : History) (fit : Claims-fit h) where
   -- the finish answer 0 does not come from the last ballot
-  not-last : o .rule ≡ byClaim → (k : ℕ) → after o h .answer-of (finish-ballot k) ≡ some false → eqb (suc (finish-ballot k)) (ballots o) ≡ false
+  not-last : o .rule ≡ rule-2 → (k : ℕ) → after o h .answer-of (finish-ballot k) ≡ some false → eqb (suc (finish-ballot k)) (ballots o) ≡ false
   not-last r k e =
       let l = finish-below o h fit r k e in
-      let count : ballots o ≡ 2 * claimBits = ap (λ (q : Rule). ballotsOf q (rounds o)) r in
-      ne-eqb (suc (finish-ballot k)) (ballots o) (λ q. let f : suc (finish-ballot k) ≡ 2 * claimBits = q ∙ count in omega arith)
+      let count : ballots o ≡ 2 * claim-bits = ap (λ (q : Rule). ballots-by q (rounds o)) r in
+      ne-eqb (suc (finish-ballot k)) (ballots o) (λ q. let f : suc (finish-ballot k) ≡ 2 * claim-bits = q ∙ count in omega arith)
 
   -- so the last test of STEP is never met
-  pub last-passes : o .rule ≡ byClaim → (k : ℕ) (x : Option Bool) → after o h .answer-of (finish-ballot k) ≡ x
+  pub last-passes : o .rule ≡ rule-2 → (k : ℕ) (x : Option Bool) → after o h .answer-of (finish-ballot k) ≡ x
       → last-refusal o x (finish-ballot k) ≡ 0
   last-passes r k none e = refl
   last-passes r k (some true) e = refl

@@ -1,8 +1,8 @@
 -- The rows, computed. Assumes nothing.
 use mathlib.Core.Path.{refl}
-use Rattle.bits.specs.Digits.{bit, binaryDigits, digitsIn}
-use Rattle.bits.specs.Words.{withBit, lowAgree}
-use Rattle.bits.specs.Log.{ceilLog2, leastFrom}
+use Rattle.bits.specs.Digits.{bit, binary-digits, digits-in}
+use Rattle.bits.specs.Words.{with-bit, low-agree}
+use Rattle.bits.specs.Log.{ceil-log2, least-from}
 use Rattle.basics.specs.Below.{any-below}
 use Rattle.consensus.specs.State.{update}
 use Rattle.consensus.specs.Rules.{stage-number, number, step-from, effect, next, after}
@@ -10,14 +10,14 @@ use Rattle.consensus.specs.Figure.{onward, event}
 use Rattle.consensus.specs.Figure1 as one
 use Rattle.consensus.specs.Figure2 as two
 use Rattle.consensus.specs.Runs.{happens, run}
-use Rattle.consensus.specs.Rows.{right, Numbers, walk, Walks}
+use Rattle.consensus.specs.Rows.{number-right, Play-numbers, walk, Walks}
 
-pub numbers : Numbers
-unfolding right bit binaryDigits digitsIn withBit lowAgree ceilLog2 leastFrom update any-below stage-number number step-from effect next after
+pub numbers : Play-numbers
+unfolding number-right bit binary-digits digits-in with-bit low-agree ceil-log2 least-from update any-below stage-number number step-from effect next after
 numbers = record { by-station = refl; by-claim = refl; apart = refl; made-up = refl }
 
 pub walks : Walks
-unfolding walk bit binaryDigits digitsIn withBit lowAgree ceilLog2 leastFrom update any-below stage-number number step-from effect next after onward event one.line two.line happens run
+unfolding walk bit binary-digits digits-in with-bit low-agree ceil-log2 least-from update any-below stage-number number step-from effect next after onward event one.line two.line happens run
 walks = record {
   at-once = refl;
   not-at-once = refl;

@@ -9,7 +9,7 @@ use mathlib.Core.Option.{Option, none, some}
 use native.Mathlib.Omega.{arith}
 use lib.Dec.{eqb, ltb}
 use borrow.Author.Tests.{lt-ltb}
-use Rattle.consensus.specs.Events.{Event, claim, deliver, step, lose, answer, Rule, byStation, byClaim, Opening, Openable, ballots}
+use Rattle.consensus.specs.Events.{Event, claim, deliver, step, lose, answer, Rule, rule-1, rule-2, Opening, Openable, ballots}
 use Rattle.consensus.specs.State.{Stage, idle, waiting, Station, State, not-idle, claimed, claim-of, held, answered, update, set-station}
 use Rattle.consensus.specs.Rules.{is-bit, stage-number, number, claiming, holding, losing, step-from, effect, was-cast, as-bit}
 use Rattle.basics.specs.Below.{any-below}
@@ -128,8 +128,8 @@ module _ (o : Opening) where
         by : (r : Rule) (p : figure-by r .Place) → Stage-ok (of-rule r) st (st .station s .stage) (st .station s .holds) (st .station s .cast)
             → place-by r (st .station s .stage) ≡ some p
             → Alike (place-by r) (does-at (of-rule r) st s (st .station s .stage)) (event (figure-by r) (play-view (of-rule r) st s) p)
-        by byStation p right e = alike-1 (o .count) st s (ok .some-station) (st .station s .stage) p mine right e
-        by byClaim p right e = alike-2 (o .count) st s (st .station s .stage) p right e
+        by rule-1 p right e = alike-1 (o .count) st s (ok .some-station) (st .station s .stage) p mine right e
+        by rule-2 p right e = alike-2 (o .count) st s (st .station s .stage) p right e
 
     abbrev Part : Type 0
     Part = Process (figure-of o .Place)

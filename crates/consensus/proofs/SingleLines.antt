@@ -5,7 +5,7 @@ use mathlib.Core.Path.{_≡_, refl, sym, subst, ap, _∙_, fun-ext}
 use mathlib.Core.Logic.{_⊎_, inl, inr}
 use mathlib.Core.Bool.{Bool, false, cond}
 use mathlib.Core.Option.{Option, none, some, Option·some-injective}
-use Rattle.consensus.specs.Events.{Event, claim, deliver, step, lose, answer, History, start, _▷_, Rule, byStation, byClaim, Opening, Openable}
+use Rattle.consensus.specs.Events.{Event, claim, deliver, step, lose, answer, History, start, _▷_, Rule, rule-1, rule-2, Opening, Openable}
 use Rattle.consensus.specs.State.{Stage, idle, waiting, voting, awaiting, seeking, finish-voting, finish-awaiting, decided, State, claim-of}
 use Rattle.consensus.specs.Rules.{after}
 use Rattle.consensus.specs.Terms.{Claims-fit}
@@ -44,7 +44,7 @@ module _ (st : State) (holds : ℕ → Bool) (cast : ℕ → Option Bool) (f : �
   ready-there : (q p : two.Place) → _≡_ {A = Option two.Place} (some q) (some p) → Ready-2 f q → Ready-2 f p
   ready-there q p e t = subst (Ready-2 f) (Option·some-injective q p e) t
 
-  ready-2 : (g : Stage) (p : two.Place) → Stage-ok (record { count = n; rule = byClaim }) st g holds cast → place-2 g ≡ some p → Ready-2 f p
+  ready-2 : (g : Stage) (p : two.Place) → Stage-ok (record { count = n; rule = rule-2 }) st g holds cast → place-2 g ≡ some p → Ready-2 f p
   ready-2 idle p ok e = ready-there _ p e tt
   ready-2 waiting p ok e = ready-there _ p e tt
   ready-2 (voting j k d) p ok e = ready-there _ p e tt
@@ -57,8 +57,8 @@ module _ (st : State) (holds : ℕ → Bool) (cast : ℕ → Option Bool) (f : �
 
   ready-by : (r : Rule) (g : Stage) (p : figure-by r .Place) → Stage-ok (record { count = n; rule = r }) st g holds cast
       → place-by r g ≡ some p → Ready-by r f p
-  ready-by byStation g p ok e = tt
-  ready-by byClaim g p ok e = ready-2 g p ok e
+  ready-by rule-1 g p ok e = tt
+  ready-by rule-2 g p ok e = ready-2 g p ok e
 
 shown-ready : (o : Opening) (st : State) (y : Figure-state o) → Inv o st → Shows o st y → (i : ℕ)
     → Ready-by (o .rule) (y .process i .prop) (y .process i .place)

@@ -9,11 +9,11 @@ use native.Mathlib.Omega.{arith}
 use native.Mathlib.Nat.{eq-or-lt-of-le, le-of-suc-le-suc}
 use lib.Dec.{leb}
 use borrow.Author.Tests.{leb-true, leb-false}
-use Rattle.bits.specs.Digits.{bit, bitLength}
-use Rattle.bits.specs.Words.{withBit, lowAgree}
+use Rattle.bits.specs.Digits.{bit, bit-length}
+use Rattle.bits.specs.Words.{with-bit, low-agree}
 use Rattle.bits.proofs.Digits.{bit-ext, bit-zero, bit-above, length-bound}
 use Rattle.bits.proofs.Words.{bit-same, bit-other, agree-bits}
-use Rattle.consensus.specs.Events.{Rule, byStation, byClaim, Opening}
+use Rattle.consensus.specs.Events.{Rule, rule-1, rule-2, Opening}
 use Rattle.consensus.specs.State.{State, claim-of}
 use Rattle.consensus.specs.Rules.{bit-ballot, bit-ballot-by, finish-ballot, spelled, spelled-by}
 use Rattle.basics.specs.Below.{any-below}
@@ -28,20 +28,20 @@ below-suc i k l f g = ⊎-elim g f (eq-or-lt-of-le (le-of-suc-le-suc l))
 -- ---- ballots
 
 bit-ballot-inj-by : (r : Rule) (k m : ℕ) → bit-ballot-by r k ≡ bit-ballot-by r m → k ≡ m
-bit-ballot-inj-by byStation k m e = e
-bit-ballot-inj-by byClaim k m e = omega arith
+bit-ballot-inj-by rule-1 k m e = e
+bit-ballot-inj-by rule-2 k m e = omega arith
 
 pub bit-ballot-inj : (o : Opening) (k m : ℕ) → bit-ballot o k ≡ bit-ballot o m → k ≡ m
 bit-ballot-inj o k m e = bit-ballot-inj-by (o .rule) k m e
 
-pub bit-not-finish : (o : Opening) → o .rule ≡ byClaim → (k m : ℕ) → bit-ballot o k ≡ finish-ballot m → ⊥
+pub bit-not-finish : (o : Opening) → o .rule ≡ rule-2 → (k m : ℕ) → bit-ballot o k ≡ finish-ballot m → ⊥
 bit-not-finish o r k m e =
     let f : 2 * k ≡ 2 * m + 1 = subst (λ (x : Rule). bit-ballot-by x k ≡ finish-ballot m) r e in omega arith
 
-pub spelled-claim : (o : Opening) (st : State) → o .rule ≡ byClaim → (j : ℕ) → spelled o st j ≡ claim-of st j
+pub spelled-claim : (o : Opening) (st : State) → o .rule ≡ rule-2 → (j : ℕ) → spelled o st j ≡ claim-of st j
 spelled-claim o st r j = ap (λ (x : Rule). spelled-by x st j) r
 
-pub unfinished-of : (o : Opening) (st : State) → o .rule ≡ byClaim → (k : ℕ) → Round o st k → Unfinished o st k
+pub unfinished-of : (o : Opening) (st : State) → o .rule ≡ rule-2 → (k : ℕ) → Round o st k → Unfinished o st k
 unfinished-of o st r k x = subst (λ (y : Rule). Round-by o y st k) r x
 
 -- ---- answers
@@ -59,7 +59,7 @@ module _ (o : Opening) (st : State) (inv : Inv o st) where
       go (inr c) = absurd (bit-not-finish o (c .0) k (c .1 .0) (c .1 .1))
 
   -- and so was that of its finish ballot
-  pub finish-answer : o .rule ≡ byClaim → (k : ℕ) (a : Bool) → st .answer-of (finish-ballot k) ≡ some a → Finish-cast o st k a
+  pub finish-answer : o .rule ≡ rule-2 → (k : ℕ) (a : Bool) → st .answer-of (finish-ballot k) ≡ some a → Finish-cast o st k a
   finish-answer r k a e = go (cast-of (finish-ballot k) a e)
     where
       go : Cast-ok o st (finish-ballot k) a → Finish-cast o st k a
@@ -90,19 +90,19 @@ module _ (o : Opening) (st : State) where
   fits-none t i l = absurd (native.Mathlib.Nat.not-suc-le-zero l)
 
   -- the answer of round k becomes bit k of the word
-  pub word-more : (k d : ℕ) (a : Bool) → Word o st k d → st .answer-of (bit-ballot o k) ≡ some a → Word o st (suc k) (withBit k a d)
+  pub word-more : (k d : ℕ) (a : Bool) → Word o st k d → st .answer-of (bit-ballot o k) ≡ some a → Word o st (suc k) (with-bit k a d)
   word-more k d a w e = record {
     answers = λ i l.
         below-suc i k l
         (λ m. w .answers i m ∙ ap (λ (x : Bool). some x) (sym (bit-other k i a d (λ q. native.Mathlib.Nat.lt-irrefl i (subst (λ (x : ℕ). i < x) (sym q) m)))))
         (λ q.
-        subst (λ (m : ℕ). st .answer-of (bit-ballot o m) ≡ some (bit m (withBit k a d))) (sym q)
+        subst (λ (m : ℕ). st .answer-of (bit-ballot o m) ≡ some (bit m (with-bit k a d))) (sym q)
         (e ∙ ap (λ (x : Bool). some x) (sym (bit-same k a d))));
     above = λ i l. bit-other k i a d (λ q. let x = q in omega arith) ∙ w .above i (omega arith);
   }
 
   -- what agrees with the word in its low bits fits the answers
-  pub agree-fits : (k d t : ℕ) → Word o st (suc k) d → lowAgree k d (spelled o st t) ≡ true → Fits o st (suc k) t
+  pub agree-fits : (k d t : ℕ) → Word o st (suc k) d → low-agree k d (spelled o st t) ≡ true → Fits o st (suc k) t
   agree-fits k d t w e i l = w .answers i l ∙ ap (λ (x : Bool). some x) (agree-bits k d (spelled o st t) e i (le-of-suc-le-suc l))
 
   -- two words of the same rounds are one
@@ -118,18 +118,18 @@ module _ (o : Opening) (st : State) where
 pub higher-bit : (k d v : ℕ) → ((i : ℕ) → i < k → bit i d ≡ bit i v) → ((i : ℕ) → k ≤ i → bit i d ≡ false) → (d ≡ v → ⊥)
     → (i : ℕ) × (k ≤ i) × (bit i v ≡ true)
 higher-bit k d v low high ne =
-    by-bool (any-below (bitLength v) test)
-    (λ e. let t = any-found (bitLength v) test e in let both = and-true (leb k (t .0)) (bit (t .0) v) (t .2) in (t .0, leb-true k (t .0) (both .0), both .1))
+    by-bool (any-below (bit-length v) test)
+    (λ e. let t = any-found (bit-length v) test e in let both = and-true (leb k (t .0)) (bit (t .0) v) (t .2) in (t .0, leb-true k (t .0) (both .0), both .1))
     (λ e. absurd (ne (bit-ext d v (same e))))
   where
     test : ℕ → Bool
     test i = leb k i && bit i v
 
-    same : any-below (bitLength v) test ≡ false → (i : ℕ) → bit i d ≡ bit i v
+    same : any-below (bit-length v) test ≡ false → (i : ℕ) → bit i d ≡ bit i v
     same e i =
         by-bool (leb k i)
         (λ p.
         high i (leb-true k i p)
-        ∙ sym (by-bool (leb (bitLength v) i) (λ q. bit-above (bitLength v) v (length-bound v) i (leb-true (bitLength v) i q))
-        (λ q. subst (λ (x : Bool). (x && bit i v) ≡ false) p (any-none (bitLength v) test e i (leb-false (bitLength v) i q)))))
+        ∙ sym (by-bool (leb (bit-length v) i) (λ q. bit-above (bit-length v) v (length-bound v) i (leb-true (bit-length v) i q))
+        (λ q. subst (λ (x : Bool). (x && bit i v) ≡ false) p (any-none (bit-length v) test e i (leb-false (bit-length v) i q)))))
         (λ p. low i (leb-false k i p))

@@ -10,13 +10,13 @@ use native.Mathlib.Nat.{lt-of-lt-of-le, mod-lt, lt-irrefl}
 use lib.Dec.{eqb}
 use borrow.Author.Tests.{eqb-true, eqb-false}
 use Rattle.bits.specs.Digits.{bit}
-use Rattle.bits.specs.Words.{withBit, lowAgree}
-use Rattle.bits.specs.Log.{ceilLog2}
+use Rattle.bits.specs.Words.{with-bit, low-agree}
+use Rattle.bits.specs.Log.{ceil-log2}
 use Rattle.bits.proofs.Digits.{bit-above}
 use Rattle.bits.proofs.Log.{log-enough}
-use Rattle.consensus.specs.Events.{Rule, byStation, byClaim, Opening}
+use Rattle.consensus.specs.Events.{Rule, rule-1, rule-2, Opening}
 use Rattle.consensus.specs.State.{Stage, idle, waiting, voting, awaiting, seeking, finish-voting, finish-awaiting, decided, State, not-idle, claimed, claim-of, held, answered, bit-of, update, set-station}
-use Rattle.consensus.specs.Rules.{bit-ballot, bit-ballot-by, finish-ballot, spelled, stage-number, first-stage, found, finished, step-from}
+use Rattle.consensus.specs.Rules.{bit-ballot, bit-ballot-by, finish-ballot, spelled, stage-number, first-stage, stage-after-seek, finished, step-from}
 use Rattle.consensus.proofs.Basics.{update-ind, update-same}
 use Rattle.basics.proofs.Bools.{cond-ind, no-clash, not-false→true, and-true}
 use Rattle.basics.proofs.Refusals.{refused-not}
@@ -42,15 +42,15 @@ unfolding stage-number
 decided-refused o st s v k e = omega arith
 
 -- with two stations or more there is a round
-pub some-round : (n : ℕ) → 0 < n → (n ≡ 1 → ⊥) → 0 < ceilLog2 n
-some-round n p ne = go (ceilLog2 n) (log-enough n)
+pub some-round : (n : ℕ) → 0 < n → (n ≡ 1 → ⊥) → 0 < ceil-log2 n
+some-round n p ne = go (ceil-log2 n) (log-enough n)
   where
     go : (r : ℕ) → n ≤ 2 ^ r → 0 < r
     go zero l = absurd (ne (omega arith))
     go (suc r) l = omega arith
 
-pub one-station : ceilLog2 1 ≡ 0
-unfolding ceilLog2 Rattle.bits.specs.Log.leastFrom
+pub one-station : ceil-log2 1 ≡ 0
+unfolding ceil-log2 Rattle.bits.specs.Log.least-from
 one-station = refl
 
 -- from the stage g the station may go to the stage g' with its casts as they are
@@ -61,8 +61,8 @@ pub record Restaged (o : Opening) (st : State) (s : ℕ) (g g' : Stage) : Type 0
 
 first-ok : (n : ℕ) (r : Rule) (st : State) (s : ℕ) → s < n → held st s s ≡ true → claimed st s ≡ true
     → Restaged (opening n r) st s waiting (first-stage r n s (claim-of st s))
-first-ok n byStation st s l h c =
-    cond-ind (λ (g : Stage). Restaged (opening n byStation) st s waiting g) (eqb n 1) (decided (claim-of st s) 0) (voting s 0 0)
+first-ok n rule-1 st s l h c =
+    cond-ind (λ (g : Stage). Restaged (opening n rule-1) st s waiting g) (eqb n 1) (decided (claim-of st s) 0) (voting s 0 0)
     (λ e. record { active = refl; more = λ b m. zero-le; ok = (s, alone (eqb-true n 1 e), c, refl) })
     (λ e. record {
       active = refl;
@@ -71,37 +71,37 @@ first-ok n byStation st s l h c =
         round = some-round n (omega arith) (eqb-false n 1 e);
         word = Spelling.word-empty _ st;
         mine = h;
-        fits = Spelling.fits-none (opening n byStation) st s;
+        fits = Spelling.fits-none (opening n rule-1) st s;
       };
     })
   where
-    alone : n ≡ 1 → Word (opening n byStation) st (ceilLog2 n) s
+    alone : n ≡ 1 → Word (opening n rule-1) st (ceil-log2 n) s
     alone e =
-        let none-left : ceilLog2 n ≡ 0 = ap ceilLog2 e ∙ one-station in
+        let none-left : ceil-log2 n ≡ 0 = ap ceil-log2 e ∙ one-station in
         let first : s ≡ 0 = omega arith in
-        subst (λ (k : ℕ). Word (opening n byStation) st k s) (sym none-left)
-        (subst (λ (d : ℕ). Word (opening n byStation) st 0 d) (sym first) (Spelling.word-empty _ st))
-first-ok n byClaim st s l h c = record {
+        subst (λ (k : ℕ). Word (opening n rule-1) st k s) (sym none-left)
+        (subst (λ (d : ℕ). Word (opening n rule-1) st 0 d) (sym first) (Spelling.word-empty _ st))
+first-ok n rule-2 st s l h c = record {
   active = refl;
   more = λ b m. zero-le;
-  ok = record { round = λ i m. absurd (native.Mathlib.Nat.not-suc-le-zero m); word = Spelling.word-empty _ st; mine = h; fits = Spelling.fits-none (opening n byClaim) st s };
+  ok = record { round = λ i m. absurd (native.Mathlib.Nat.not-suc-le-zero m); word = Spelling.word-empty _ st; mine = h; fits = Spelling.fits-none (opening n rule-2) st s };
 }
 
 -- seeking ends at j
 found-ok : (n : ℕ) (r : Rule) (st : State) (s i j k d : ℕ) → j < n → st .station s .holds j ≡ true → claimed st j ≡ true
     → Seeking (opening n r) st i k d → Fits (opening n r) st (suc k) j
-    → Restaged (opening n r) st s (seeking i k d) (found (opening n r) st r j k d)
-found-ok n byStation st s i j k d l h c x f =
-    cond-ind (λ (g : Stage). Restaged (opening n byStation) st s (seeking i k d) g) (eqb (suc k) (ceilLog2 n)) (decided (claim-of st j) k) (voting j (suc k) d)
+    → Restaged (opening n r) st s (seeking i k d) (stage-after-seek (opening n r) st r j k d)
+found-ok n rule-1 st s i j k d l h c x f =
+    cond-ind (λ (g : Stage). Restaged (opening n rule-1) st s (seeking i k d) g) (eqb (suc k) (ceil-log2 n)) (decided (claim-of st j) k) (voting j (suc k) d)
     (λ e.
-    let last : suc k ≡ ceilLog2 n = eqb-true _ _ e in record {
+    let last : suc k ≡ ceil-log2 n = eqb-true _ _ e in record {
       active = refl;
       more = λ b m. let z = last in omega arith;
       ok = (
         j,
         record {
-          answers = subst (λ (y : ℕ). Fits (opening n byStation) st y j) last f;
-          above = bit-above (ceilLog2 n) j (lt-of-lt-of-le l (log-enough n));
+          answers = subst (λ (y : ℕ). Fits (opening n rule-1) st y j) last f;
+          above = bit-above (ceil-log2 n) j (lt-of-lt-of-le l (log-enough n));
         },
         c,
         refl,
@@ -112,7 +112,7 @@ found-ok n byStation st s i j k d l h c x f =
       more = λ b m. m;
       ok = record { round = lib.Arith.lt-of-le-ne (x .round) (eqb-false _ _ e); word = x .word; mine = h; fits = f };
     })
-found-ok n byClaim st s i j k d l h c x f = record {
+found-ok n rule-2 st s i j k d l h c x f = record {
   active = refl;
   more = λ b m. omega arith;
   ok = (refl, record { round = x .round; word = x .word; mine = h; fits = f });
@@ -190,7 +190,7 @@ module _ (o : Opening) (st : State) (s : ℕ) (inv : Inv o st) (below : s < o .c
   from-awaiting j k d x e =
       let a = bit-of (st .answer-of (bit-ballot o k)) in
       let ans : st .answer-of (bit-ballot o k) ≡ some a = some-answer _ (not-false→true _ (refused-not _ 8 0 refl e .0)) in
-      restage (awaiting j k d) (seeking j k (withBit k a d)) x refl (λ b l. l) (record {
+      restage (awaiting j k d) (seeking j k (with-bit k a d)) x refl (λ b l. l) (record {
         round = x .stage .0 .round;
         word = Spelling.word-more o st k d a (x .stage .0 .word) ans;
         cursor = x .holdings j (x .stage .0 .mine) .1;
@@ -219,16 +219,16 @@ module _ (o : Opening) (st : State) (s : ℕ) (inv : Inv o st) (below : s < o .c
   from-seeking j k d x =
       let i = (j + 1) % o .count in
       let l : i < o .count = mod-lt (j + 1) (omega arith) in
-      let test = held st s i && lowAgree k d (spelled o st i) in
+      let test = held st s i && low-agree k d (spelled o st i) in
       restaged (seeking j k d) _ x
-      (cond-ind (λ (g : Stage). Restaged o st s (seeking j k d) g) test (found o st (o .rule) i k d) (seeking i k d)
+      (cond-ind (λ (g : Stage). Restaged o st s (seeking j k d) g) test (stage-after-seek o st (o .rule) i k d) (seeking i k d)
       (λ e.
-      let both = and-true (held st s i) (lowAgree k d (spelled o st i)) e in
+      let both = and-true (held st s i) (low-agree k d (spelled o st i)) e in
       found-ok (o .count) (o .rule) st s j i k d l (both .0) (claimed-of _ x i (both .0)) (x .stage) (Spelling.agree-fits o st k d i (x .stage .word) (both .1)))
       (λ e. seek-on j i k d l (x .stage)))
 
   -- the finish vote: 1 where the word is the cursor's whole claim; else that claim has a higher bit
-  finish-reason : (j k d : ℕ) → o .rule ≡ byClaim → Part (finish-voting j k d) → Finish-cast o st k (eqb d (claim-of st j))
+  finish-reason : (j k d : ℕ) → o .rule ≡ rule-2 → Part (finish-voting j k d) → Finish-cast o st k (eqb d (claim-of st j))
   finish-reason j k d r x =
       let y = x .stage .1 in
       let same = Spelling.spelled-claim o st r j in record {
@@ -252,7 +252,7 @@ module _ (o : Opening) (st : State) (s : ℕ) (inv : Inv o st) (below : s < o .c
       (λ c e. (x .stage .0, x .stage .1, e))
 
   -- the finish answer 1: the claim that was spelled whole is the word
-  finish-decides : (j k d : ℕ) → o .rule ≡ byClaim → Spelling o st holds j k (suc k) d → st .answer-of (finish-ballot k) ≡ some true
+  finish-decides : (j k d : ℕ) → o .rule ≡ rule-2 → Spelling o st holds j k (suc k) d → st .answer-of (finish-ballot k) ≡ some true
       → Restaged o st s (finish-awaiting j k d) (decided d k)
   finish-decides j k d r y e =
       let c = Spelling.finish-answer o st inv r k true e in
@@ -261,7 +261,7 @@ module _ (o : Opening) (st : State) (s : ℕ) (inv : Inv o st) (below : s < o .c
       let word : Word o st (suc k) (spelled o st t) =
       record { answers = c .candidate .fits; above = λ i l. ap (bit i) same ∙ c .whole refl i l }
       in
-      let by : Decided-by o byClaim st d k =
+      let by : Decided-by o rule-2 st d k =
       (t, y .word, c .candidate .is-claimed, sym same ∙ Spelling.word-unique o st (suc k) _ d word (y .word), c .unfinished, e)
       in
       record {
@@ -271,7 +271,7 @@ module _ (o : Opening) (st : State) (s : ℕ) (inv : Inv o st) (below : s < o .c
       }
 
   -- the finish answer 0: the next round
-  finish-goes-on : (j k d : ℕ) → o .rule ≡ byClaim → Spelling o st holds j k (suc k) d → st .answer-of (finish-ballot k) ≡ some false
+  finish-goes-on : (j k d : ℕ) → o .rule ≡ rule-2 → Spelling o st holds j k (suc k) d → st .answer-of (finish-ballot k) ≡ some false
       → Restaged o st s (finish-awaiting j k d) (voting j (suc k) d)
   finish-goes-on j k d r y e =
       let u = Spelling.unfinished-of o st r k (y .round) in

@@ -6,7 +6,7 @@ use mathlib.Core.Logic.{_⊎_, inl, inr, ⊎-elim}
 use mathlib.Core.Bool.{true, false}
 use native.Mathlib.Omega.{arith}
 use native.Mathlib.Nat.{le-refl, le-trans, mul-le-mul-right}
-use Rattle.consensus.specs.Events.{Event, History, start, _▷_, Rule, byStation, byClaim, Opening, rounds}
+use Rattle.consensus.specs.Events.{Event, History, start, _▷_, Rule, rule-1, rule-2, Opening, rounds}
 use Rattle.consensus.specs.State.{Stage, idle, waiting, voting, awaiting, seeking, finish-voting, finish-awaiting, decided, Station, State, not-idle, claimed, held, bit-of}
 use Rattle.consensus.specs.Rules.{finish-ballot, finished, step-from, stage-number, next, after}
 use Rattle.consensus.specs.Terms.{takes, Supplied, Supplied-steps, longest}
@@ -40,7 +40,7 @@ spent-step o st p l (finish-awaiting j k d) x n m m' a z =
     let r = x .stage .0 in
     let v = bit-of (st .answer-of (finish-ballot k)) in
     let b = advance-le st p m m' a in
-    let y : m ≤ begun byClaim (o .count) k + 3 + o .count = subst (λ (q : Rule). m ≤ begun q (o .count) k + 3 + o .count) r z in
+    let y : m ≤ begun rule-2 (o .count) k + 3 + o .count = subst (λ (q : Rule). m ≤ begun q (o .count) k + 3 + o .count) r z in
     subst (λ (q : Opening). Spent q st p m' (finished v j k d)) (by-claim o r) (finished-spent (o .count) v st p j k d m' (omega arith))
 spent-step o st p l (decided v k) x n m m' a z = absurd (decided-refused o st p v k n)
 
@@ -65,8 +65,8 @@ spent-grows o st st' p m (finish-awaiting j k d) w c z = z
 spent-grows o st st' p m (decided v k) w c z = decided-case (o .rule) z
   where
     decided-case : (r : Rule) → Spent-by o r st p m (decided v k) → Spent-by o r st' p m (decided v k)
-    decided-case byStation z = z
-    decided-case byClaim z = z
+    decided-case rule-1 z = z
+    decided-case rule-2 z = z
 
 module _ (o : Opening) (p : ℕ) where
   abbrev stage-after : History → Stage
@@ -104,12 +104,12 @@ module _ (o : Opening) (p : ℕ) where
 
 -- ---- the bound itself
 
-pub no-such-rule : byStation ≡ byClaim → ⊥
+pub no-such-rule : rule-1 ≡ rule-2 → ⊥
 no-such-rule e = subst kind e tt
   where
     kind : Rule → Type 0
-    kind byStation = Unit {0}
-    kind byClaim = ⊥
+    kind rule-1 = Unit {0}
+    kind rule-2 = ⊥
 
 -- below the last round, what was spent is below the bound
 round-cost : (c k r m : ℕ) → suc k ≤ r → m ≤ 1 + suc k * c → m ≤ 1 + r * c
@@ -120,7 +120,7 @@ module _ (n : ℕ) (h : History) (p m : ℕ) where
   Bound-of r g = Part (opening n r) (after (opening n r) h) p g → (not-idle g ≡ true → claimed (after (opening n r) h) p ≡ true) → Spent (opening n r) (after (opening n r) h) p m g
       → m ≤ most-steps r n (rounds (opening n r)) (longest (opening n r) h)
 
-  by-station : (g : Stage) → Bound-of byStation g
+  by-station : (g : Stage) → Bound-of rule-1 g
   by-station idle x c z = omega arith
   by-station waiting x c z = omega arith
   by-station (voting j k d) x c z = round-cost (n + 2) k _ m (x .stage .round) (omega arith)
@@ -131,21 +131,21 @@ module _ (n : ℕ) (h : History) (p m : ℕ) where
   by-station (finish-awaiting j k d) x c z = absurd (no-such-rule (x .stage .0))
   by-station (decided v k) x c z = z
 
-  by-claims : (g : Stage) → Bound-of byClaim g
+  by-claims : (g : Stage) → Bound-of rule-2 g
   by-claims idle x c z = omega arith
   by-claims waiting x c z = omega arith
-  by-claims (voting j k d) x c z = round-cost (n + 4) k _ m (round-short (opening n byClaim) refl h k p (c refl) (x .stage .round)) (omega arith)
-  by-claims (awaiting j k d) x c z = round-cost (n + 4) k _ m (round-short (opening n byClaim) refl h k p (c refl) (x .stage .0 .round)) (omega arith)
-  by-claims (seeking j k d) x c (inl z) = round-cost (n + 4) k _ m (round-short (opening n byClaim) refl h k p (c refl) (x .stage .round)) (omega arith)
+  by-claims (voting j k d) x c z = round-cost (n + 4) k _ m (round-short (opening n rule-2) refl h k p (c refl) (x .stage .round)) (omega arith)
+  by-claims (awaiting j k d) x c z = round-cost (n + 4) k _ m (round-short (opening n rule-2) refl h k p (c refl) (x .stage .0 .round)) (omega arith)
+  by-claims (seeking j k d) x c (inl z) = round-cost (n + 4) k _ m (round-short (opening n rule-2) refl h k p (c refl) (x .stage .round)) (omega arith)
   by-claims (seeking j k d) x c (inr z) =
-      round-cost (n + 4) k _ m (round-short (opening n byClaim) refl h k p (c refl) (x .stage .round)) (let l = z .left in omega arith)
-  by-claims (finish-voting j k d) x c z = round-cost (n + 4) k _ m (round-short (opening n byClaim) refl h k p (c refl) (x .stage .1 .round)) (omega arith)
-  by-claims (finish-awaiting j k d) x c z = round-cost (n + 4) k _ m (round-short (opening n byClaim) refl h k p (c refl) (x .stage .1 .round)) (omega arith)
-  by-claims (decided v k) x c z = round-cost (n + 4) k _ m (round-short (opening n byClaim) refl h k p (c refl) (x .stage .4)) z
+      round-cost (n + 4) k _ m (round-short (opening n rule-2) refl h k p (c refl) (x .stage .round)) (let l = z .left in omega arith)
+  by-claims (finish-voting j k d) x c z = round-cost (n + 4) k _ m (round-short (opening n rule-2) refl h k p (c refl) (x .stage .1 .round)) (omega arith)
+  by-claims (finish-awaiting j k d) x c z = round-cost (n + 4) k _ m (round-short (opening n rule-2) refl h k p (c refl) (x .stage .1 .round)) (omega arith)
+  by-claims (decided v k) x c z = round-cost (n + 4) k _ m (round-short (opening n rule-2) refl h k p (c refl) (x .stage .4)) z
 
   by-rule : (r : Rule) (g : Stage) → Bound-of r g
-  by-rule byStation g = by-station g
-  by-rule byClaim g = by-claims g
+  by-rule rule-1 g = by-station g
+  by-rule rule-2 g = by-claims g
 
 pub bound : (o : Opening) (h : History) (p m : ℕ) → Supplied-steps o p m h → m ≤ most-steps (o .rule) (o .count) (rounds o) (longest o h)
 bound o h p m s = by-rule (o .count) h p m (o .rule) (after o h .station p .stage) (reached o h .parts p) (λ a. a) (spent o p h m s)

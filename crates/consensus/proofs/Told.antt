@@ -10,11 +10,11 @@ use native.Mathlib.Omega.{arith}
 use native.Mathlib.Nat.{le-refl, le-step, not-suc-le-zero}
 use lib.Dec.{eqb}
 use borrow.Author.Tests.{eqb-true, eq-eqb, ne-eqb}
-use Rattle.bits.specs.Words.{lowAgree}
-use Rattle.bits.specs.Log.{ceilLog2}
-use Rattle.consensus.specs.Events.{Event, claim, deliver, step, lose, answer, History, start, _▷_, Rule, byStation, byClaim, Opening}
+use Rattle.bits.specs.Words.{low-agree}
+use Rattle.bits.specs.Log.{ceil-log2}
+use Rattle.consensus.specs.Events.{Event, claim, deliver, step, lose, answer, History, start, _▷_, Rule, rule-1, rule-2, Opening}
 use Rattle.consensus.specs.State.{Stage, idle, waiting, voting, awaiting, seeking, finish-voting, finish-awaiting, decided, Station, State, claim-of, held, answered, bit-of}
-use Rattle.consensus.specs.Rules.{bit-ballot, finish-ballot, spelled, as-bit, number, first-stage, found, sought, finished, step-from, stage-number, effect, next, after}
+use Rattle.consensus.specs.Rules.{bit-ballot, finish-ballot, spelled, as-bit, number, first-stage, stage-after-seek, sought, finished, step-from, stage-number, effect, next, after}
 use Rattle.consensus.specs.Terms.{ballot-at, decision, given, or-else, listed, paired, with-answer, accepts, takes, first-answer, voted-in, waits-on, answers-taken, Decided}
 use Rattle.consensus.specs.Told.{awaited}
 use Rattle.consensus.specs.Demand3.{first-ballots}
@@ -103,30 +103,30 @@ pub record Moves (o : Opening) (g g' : Stage) : Type 0 where
   pub answers : Adds (awaited o g) (answers-count o g) (answers-count o g')
 
 first-moves : (n : ℕ) (r : Rule) (s v : ℕ) → Moves (opening n r) waiting (first-stage r n s v)
-first-moves n byStation s v =
-    cond-ind (Moves (opening n byStation) waiting) (eqb n 1) (decided v 0) (voting s 0 0)
-    (λ e. let none-left : ceilLog2 n ≡ 0 = ap ceilLog2 (eqb-true n 1 e) ∙ one-station in record { waits = refl; voted = none-left; answers = none-left })
+first-moves n rule-1 s v =
+    cond-ind (Moves (opening n rule-1) waiting) (eqb n 1) (decided v 0) (voting s 0 0)
+    (λ e. let none-left : ceil-log2 n ≡ 0 = ap ceil-log2 (eqb-true n 1 e) ∙ one-station in record { waits = refl; voted = none-left; answers = none-left })
     (λ e. record { waits = refl; voted = refl; answers = refl })
-first-moves n byClaim s v = record { waits = refl; voted = refl; answers = refl }
+first-moves n rule-2 s v = record { waits = refl; voted = refl; answers = refl }
 
-found-moves : (n : ℕ) (r : Rule) (st : State) (i j k d : ℕ) → Moves (opening n r) (seeking i k d) (found (opening n r) st r j k d)
-found-moves n byStation st i j k d =
-    cond-ind (Moves (opening n byStation) (seeking i k d)) (eqb (suc k) (ceilLog2 n)) (decided (claim-of st j) k) (voting j (suc k) d)
+found-moves : (n : ℕ) (r : Rule) (st : State) (i j k d : ℕ) → Moves (opening n r) (seeking i k d) (stage-after-seek (opening n r) st r j k d)
+found-moves n rule-1 st i j k d =
+    cond-ind (Moves (opening n rule-1) (seeking i k d)) (eqb (suc k) (ceil-log2 n)) (decided (claim-of st j) k) (voting j (suc k) d)
     (λ e. record { waits = refl; voted = sym (eqb-true _ _ e); answers = sym (eqb-true _ _ e) })
     (λ e. record { waits = refl; voted = refl; answers = refl })
-found-moves n byClaim st i j k d = record { waits = refl; voted = omega arith; answers = omega arith }
+found-moves n rule-2 st i j k d = record { waits = refl; voted = omega arith; answers = omega arith }
 
 sought-moves : (o : Opening) (st : State) (s i j k d : ℕ) → Moves o (seeking i k d) (sought o st s j k d)
 sought-moves o st s i j k d =
-    cond-ind (Moves o (seeking i k d)) (held st s j && lowAgree k d (spelled o st j)) (found o st (o .rule) j k d) (seeking j k d)
+    cond-ind (Moves o (seeking i k d)) (held st s j && low-agree k d (spelled o st j)) (stage-after-seek o st (o .rule) j k d) (seeking j k d)
     (λ e. found-moves (o .count) (o .rule) st i j k d)
     (λ e. record { waits = refl; voted = refl; answers = refl })
 
-finished-moves-by : (n : ℕ) (a : Bool) (j k d : ℕ) → Moves (opening n byClaim) (finish-awaiting j k d) (finished a j k d)
+finished-moves-by : (n : ℕ) (a : Bool) (j k d : ℕ) → Moves (opening n rule-2) (finish-awaiting j k d) (finished a j k d)
 finished-moves-by n true j k d = record { waits = refl; voted = refl; answers = (refl, refl) }
 finished-moves-by n false j k d = record { waits = refl; voted = omega arith; answers = (refl, omega arith) }
 
-pub by-claim : (o : Opening) → o .rule ≡ byClaim → opening (o .count) byClaim ≡ o
+pub by-claim : (o : Opening) → o .rule ≡ rule-2 → opening (o .count) rule-2 ≡ o
 by-claim o r = λ i. record { count = o .count; rule = sym r i }
 
 step-moves : (o : Opening) (st : State) (s : ℕ) (g : Stage) (p : Station) (holds : ℕ → Bool) (cast : ℕ → Option Bool)

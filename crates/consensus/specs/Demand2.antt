@@ -4,7 +4,7 @@ use Prim.Native.Nat.{ℕ}
 use mathlib.Core.Path.{_≡_}
 use mathlib.Core.Bool.{true, cond}
 use mathlib.Core.Option.{Option, none, some}
-use Rattle.consensus.specs.Events.{Event, History, _▷_, Rule, byStation, byClaim, Opening, Openable}
+use Rattle.consensus.specs.Events.{Event, History, _▷_, Rule, rule-1, rule-2, Opening, Openable}
 use Rattle.consensus.specs.State.{Stage, idle, waiting, voting, awaiting, seeking, finish-voting, finish-awaiting, decided, State, claimed, claim-of, held}
 use Rattle.consensus.specs.Rules.{number, after}
 use Rattle.consensus.specs.Terms.{Claims-fit}
@@ -15,8 +15,8 @@ use Rattle.consensus.specs.System.{System}
 use Rattle.consensus.specs.Runs.{Label, label-of, happening, run}
 
 abbrev pub figure-by : Rule → Figure
-figure-by byStation = one.figure1
-figure-by byClaim = two.figure2
+figure-by rule-1 = one.figure1
+figure-by rule-2 = two.figure2
 
 abbrev pub figure-of : Opening → Figure
 figure-of o = figure-by (o .rule)
@@ -43,8 +43,8 @@ place-2 (finish-awaiting j k d) = some (two.in12 j k d)
 place-2 (decided v k) = some (two.returned v)
 
 abbrev pub place-by : (r : Rule) → Stage → Option (figure-by r .Place)
-place-by byStation g = place-1 g
-place-by byClaim g = place-2 g
+place-by rule-1 g = place-1 g
+place-by rule-2 g = place-2 g
 
 module _ (o : Opening) where
   abbrev pub Figure-state : Type 0

@@ -2,7 +2,7 @@
 use Prim.Native.Nat.{ℕ, zero, suc, _+_, _*_, _≤_}
 use mathlib.Core.Path.{_≡_}
 use mathlib.Core.List.{List, [], _∷_, _++_, map}
-use Rattle.consensus.specs.Events.{Event, step, History, Rule, byStation, byClaim, Opening, Openable, rounds}
+use Rattle.consensus.specs.Events.{Event, step, History, Rule, rule-1, rule-2, Opening, Openable, rounds}
 use Rattle.consensus.specs.Rules.{number, after}
 use Rattle.consensus.specs.Terms.{Beginning, Claims-fit, Put-in, Lost, voted-in, answers-taken, Decided, longest, Supplied, Supplied-steps}
 
@@ -13,13 +13,13 @@ first-ballots (suc m) = first-ballots m ++ (m ∷ [])
 
 -- "exactly ceil(log2 n) ballots" by station; "an even number from 2 to twice K" by claim. They are the first so many, each voted in once.
 abbrev pub Ballots-voted : Rule → (r k : ℕ) → List ℕ → Type 0
-Ballots-voted byStation r k voted = voted ≡ first-ballots r
-Ballots-voted byClaim r k voted = (m : ℕ) × (voted ≡ first-ballots (2 * m)) × (1 ≤ m) × (m ≤ k)
+Ballots-voted rule-1 r k voted = voted ≡ first-ballots r
+Ballots-voted rule-2 r k voted = (m : ℕ) × (voted ≡ first-ballots (2 * m)) × (1 ≤ m) × (m ≤ k)
 
 -- "at most 1 + R(n + 2) supplied steps by station, or 1 + K(n + 4) by claim"
 abbrev pub most-steps : Rule → (n r k : ℕ) → ℕ
-most-steps byStation n r k = 1 + r * (n + 2)
-most-steps byClaim n r k = 1 + k * (n + 4)
+most-steps rule-1 n r k = 1 + r * (n + 2)
+most-steps rule-2 n r k = 1 + k * (n + 4)
 
 module _ (o : Opening) (h : History) where
   -- "they share one claim ..., the same ballots voted in and the same answers"

@@ -5,7 +5,7 @@ use Prim.Native.Nat.{ℕ}
 use mathlib.Core.Path.{_≡_}
 use mathlib.Core.Bool.{Bool, true, false}
 use mathlib.Core.List.{List, [], _∷_, map}
-use Rattle.consensus.specs.Events.{claim, deliver, step, lose, answer, History, start, _▷_, Rule, byStation, byClaim, Openable, rounds, ballots}
+use Rattle.consensus.specs.Events.{claim, deliver, step, lose, answer, History, start, _▷_, Rule, rule-1, rule-2, Openable, rounds, ballots}
 use Rattle.consensus.specs.Terms.{voted-in, answers-taken, Decided, longest}
 use Rattle.consensus.specs.Demand3.{Ballots-voted, most-steps, Same}
 use Rattle.consensus.specs.Examples.{opening, lone-of-three, lone-two-bits}
@@ -19,8 +19,8 @@ pub record Openings : Type 0 where
   pub too-many : (r : Rule) → Openable (opening 33 r) → ⊥
   pub R : (r : Rule)
       → map (λ n. rounds (opening n r)) (1 ∷ 2 ∷ 3 ∷ 4 ∷ 5 ∷ 8 ∷ 9 ∷ 16 ∷ 17 ∷ 32 ∷ []) ≡ 0 ∷ 1 ∷ 2 ∷ 2 ∷ 3 ∷ 3 ∷ 4 ∷ 4 ∷ 5 ∷ 5 ∷ []
-  pub by-station : map (λ n. ballots (opening n byStation)) (1 ∷ 2 ∷ 3 ∷ 16 ∷ 17 ∷ 32 ∷ []) ≡ 0 ∷ 1 ∷ 2 ∷ 4 ∷ 5 ∷ 5 ∷ []
-  pub by-claim : map (λ n. ballots (opening n byClaim)) (1 ∷ 17 ∷ 32 ∷ []) ≡ 64 ∷ 64 ∷ 64 ∷ []
+  pub by-station : map (λ n. ballots (opening n rule-1)) (1 ∷ 2 ∷ 3 ∷ 16 ∷ 17 ∷ 32 ∷ []) ≡ 0 ∷ 1 ∷ 2 ∷ 4 ∷ 5 ∷ 5 ∷ []
+  pub by-claim : map (λ n. ballots (opening n rule-2)) (1 ∷ 17 ∷ 32 ∷ []) ≡ 64 ∷ 64 ∷ 64 ∷ []
 
 -- K is the length of the longest claim put in, "0 if nothing was put in"; a refused CLAIM puts nothing in
 pub record Longest-claims : Type 0 where
@@ -33,8 +33,8 @@ pub record Longest-claims : Type 0 where
 
 -- "at most 1 + R(n + 2) supplied steps by station, or 1 + K(n + 4) by claim"; that four lists meet it is in Examples
 pub record Bounds : Type 0 where
-  pub by-station : (k : ℕ) → (most-steps byStation 1 0 k ≡ 1) × (most-steps byStation 3 2 k ≡ 11) × (most-steps byStation 17 5 k ≡ 96) × (most-steps byStation 32 5 k ≡ 171)
-  pub by-claim : (r : ℕ) → (most-steps byClaim 3 r 0 ≡ 1) × (most-steps byClaim 3 r 2 ≡ 15) × (most-steps byClaim 17 r 16 ≡ 337) × (most-steps byClaim 32 r 32 ≡ 1153)
+  pub by-station : (k : ℕ) → (most-steps rule-1 1 0 k ≡ 1) × (most-steps rule-1 3 2 k ≡ 11) × (most-steps rule-1 17 5 k ≡ 96) × (most-steps rule-1 32 5 k ≡ 171)
+  pub by-claim : (r : ℕ) → (most-steps rule-2 3 r 0 ≡ 1) × (most-steps rule-2 3 r 2 ≡ 15) × (most-steps rule-2 17 r 16 ≡ 337) × (most-steps rule-2 32 r 32 ≡ 1153)
 
 -- case C of document 01: claims 1 and 3, and the finish answer 1 after bit 0
 abbrev pub case-C : History
@@ -50,20 +50,20 @@ pub record Costs (n : ℕ) (r : Rule) (h : History) (v : ℕ) (voted : List ℕ)
 
 pub record Costs-met : Type 0 where
   -- "exactly ceil(log2 n) ballots"
-  pub exactly : Costs 3 byStation lone-of-three 7 (0 ∷ 1 ∷ []) 3
+  pub exactly : Costs 3 rule-1 lone-of-three 7 (0 ∷ 1 ∷ []) 3
   -- "an even number from 2 to twice K": both ends, with K = 2
-  pub twice-K : Costs 3 byClaim lone-two-bits 2 (0 ∷ 1 ∷ 2 ∷ 3 ∷ []) 2
-  pub from-2 : Costs 2 byClaim case-C 1 (0 ∷ 1 ∷ []) 2
+  pub twice-K : Costs 3 rule-2 lone-two-bits 2 (0 ∷ 1 ∷ 2 ∷ 3 ∷ []) 2
+  pub from-2 : Costs 2 rule-2 case-C 1 (0 ∷ 1 ∷ []) 2
   -- and no other numbers, and no other ballots
-  pub two : (r : ℕ) → Ballots-voted byClaim r 2 (0 ∷ 1 ∷ [])
-  pub four : (r : ℕ) → Ballots-voted byClaim r 2 (0 ∷ 1 ∷ 2 ∷ 3 ∷ [])
-  pub not-none : (r : ℕ) → Ballots-voted byClaim r 2 [] → ⊥
-  pub not-odd : (r : ℕ) → Ballots-voted byClaim r 2 (0 ∷ 1 ∷ 2 ∷ []) → ⊥
-  pub not-six : (r : ℕ) → Ballots-voted byClaim r 2 (0 ∷ 1 ∷ 2 ∷ 3 ∷ 4 ∷ 5 ∷ []) → ⊥
-  pub not-others : (r : ℕ) → Ballots-voted byClaim r 1 (0 ∷ 0 ∷ []) → ⊥
-  pub just-R : (k : ℕ) → Ballots-voted byStation 2 k (0 ∷ 1 ∷ [])
-  pub not-fewer : (k : ℕ) → Ballots-voted byStation 2 k (0 ∷ []) → ⊥
-  pub not-more : (k : ℕ) → Ballots-voted byStation 2 k (0 ∷ 1 ∷ 2 ∷ []) → ⊥
+  pub two : (r : ℕ) → Ballots-voted rule-2 r 2 (0 ∷ 1 ∷ [])
+  pub four : (r : ℕ) → Ballots-voted rule-2 r 2 (0 ∷ 1 ∷ 2 ∷ 3 ∷ [])
+  pub not-none : (r : ℕ) → Ballots-voted rule-2 r 2 [] → ⊥
+  pub not-odd : (r : ℕ) → Ballots-voted rule-2 r 2 (0 ∷ 1 ∷ 2 ∷ []) → ⊥
+  pub not-six : (r : ℕ) → Ballots-voted rule-2 r 2 (0 ∷ 1 ∷ 2 ∷ 3 ∷ 4 ∷ 5 ∷ []) → ⊥
+  pub not-others : (r : ℕ) → Ballots-voted rule-2 r 1 (0 ∷ 0 ∷ []) → ⊥
+  pub just-R : (k : ℕ) → Ballots-voted rule-1 2 k (0 ∷ 1 ∷ [])
+  pub not-fewer : (k : ℕ) → Ballots-voted rule-1 2 k (0 ∷ []) → ⊥
+  pub not-more : (k : ℕ) → Ballots-voted rule-1 2 k (0 ∷ 1 ∷ 2 ∷ []) → ⊥
 
 -- station 0 has voted, and station 1 has not; both have, and station 0 took the answer
 abbrev one-voted : History
@@ -74,7 +74,7 @@ one-took = one-voted ▷ step 1 ▷ step 1 ▷ answer 0 1 ▷ step 0
 
 -- "the same ballots voted in and the same answers"
 pub record Sameness : Type 0 where
-  pub answers : answers-taken (opening 2 byClaim) 0 case-D ≡ (0, true) ∷ (1, false) ∷ (2, true) ∷ (3, true) ∷ []
-  pub other-claim : Same (opening 2 byStation) start 0 1 7 9 → ⊥
-  pub other-ballots : Same (opening 2 byStation) one-voted 0 1 7 7 → ⊥
-  pub other-answers : Same (opening 2 byStation) one-took 0 1 7 7 → ⊥
+  pub answers : answers-taken (opening 2 rule-2) 0 case-D ≡ (0, true) ∷ (1, false) ∷ (2, true) ∷ (3, true) ∷ []
+  pub other-claim : Same (opening 2 rule-1) start 0 1 7 9 → ⊥
+  pub other-ballots : Same (opening 2 rule-1) one-voted 0 1 7 7 → ⊥
+  pub other-answers : Same (opening 2 rule-1) one-took 0 1 7 7 → ⊥

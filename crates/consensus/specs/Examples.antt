@@ -2,7 +2,7 @@
 -- another number; and that demand 3's bounds are met exactly, so that none can be wider. Assumes nothing.
 use Prim.Native.Nat.{ℕ, _<_}
 use mathlib.Core.Path.{_≡_}
-use Rattle.consensus.specs.Events.{Event, claim, deliver, step, lose, answer, History, start, _▷_, Rule, byStation, byClaim, Opening, rounds}
+use Rattle.consensus.specs.Events.{Event, claim, deliver, step, lose, answer, History, start, _▷_, Rule, rule-1, rule-2, Opening, rounds}
 use Rattle.consensus.specs.Rules.{number, after}
 use Rattle.consensus.specs.Terms.{longest, Supplied-steps}
 use Rattle.consensus.specs.Demand3.{most-steps}
@@ -21,7 +21,7 @@ one-seek = start ▷ claim 0 7 ▷ claim 1 9 ▷ deliver 0 0 ▷ deliver 1 0 ▷
 
 -- Claims 3 and 5 share their lowest bit, which is settled as 1. Both stations hold both claims and have cast their finish votes: neither
 -- claim is 1, so nobody cast 1. Comparing only the low bit, both would have, and both would decide 1, which nobody claimed.
-abbrev three-and-five : History
+abbrev pub three-and-five : History
 three-and-five =
     start ▷ claim 0 3 ▷ claim 1 5 ▷ deliver 0 0 ▷ deliver 1 0 ▷ deliver 0 1 ▷ deliver 1 1
     ▷ step 0 ▷ step 0 ▷ step 1 ▷ step 1 ▷ answer 0 1 ▷ step 0 ▷ step 0 ▷ step 0 ▷ step 1 ▷ step 1 ▷ step 1
@@ -39,14 +39,14 @@ two-to-one =
 
 pub record Four-readings : Type 0 where
   -- the figures move first: a further seek is accepted
-  pub moves-first : number-after 2 byStation one-seek (step 0) ≡ 0
+  pub moves-first : number-after 2 rule-1 one-seek (step 0) ≡ 0
   -- the finish vote compares whole claims: answer 1 was cast by nobody
-  pub whole-claim : number-after 2 byClaim three-and-five (answer 1 1) ≡ 12
-  pub goes-on : number-after 2 byClaim three-and-five (answer 1 0) ≡ 0
+  pub whole-claim : number-after 2 rule-2 three-and-five (answer 1 1) ≡ 12
+  pub goes-on : number-after 2 rule-2 three-and-five (answer 1 0) ≡ 0
   -- an undelivered claim fits nothing: the finish vote comes only now
-  pub not-zero : number-after 2 byClaim undelivered (step 0) ≡ 0
+  pub not-zero : number-after 2 rule-2 undelivered (step 0) ≡ 0
   -- any cast bit may be answered, not only the one that most sent
-  pub any-cast : number-after 3 byStation two-to-one (answer 0 1) ≡ 0
+  pub any-cast : number-after 3 rule-1 two-to-one (answer 0 1) ≡ 0
 
 -- ---- a lone claimant uses up the bounds of demand 3
 
@@ -88,10 +88,10 @@ pub record Meets-bound (n : ℕ) (r : Rule) (h : History) (m : ℕ) : Type 0 whe
   pub no-fewer : (i : ℕ) → i < m → Supplied-steps (opening n r) 0 i h → ⊥
 
 pub record Bounds-met : Type 0 where
-  pub by-station : Meets-bound 2 byStation lone-by-station 5
-  pub by-station-3 : Meets-bound 3 byStation lone-of-three 11
-  pub by-claim : Meets-bound 1 byClaim lone-by-claim 6
-  pub by-claim-3 : Meets-bound 3 byClaim lone-two-bits 15
+  pub by-station : Meets-bound 2 rule-1 lone-by-station 5
+  pub by-station-3 : Meets-bound 3 rule-1 lone-of-three 11
+  pub by-claim : Meets-bound 1 rule-2 lone-by-claim 6
+  pub by-claim-3 : Meets-bound 3 rule-2 lone-two-bits 15
   -- what is supplied, and what is not
-  pub nobody-holds : Supplied-steps (opening 2 byStation) 0 5 beside-a-lost-claim
-  pub somebody-holds : Supplied-steps (opening 2 byStation) 0 0 lacking-a-held-claim
+  pub nobody-holds : Supplied-steps (opening 2 rule-1) 0 5 beside-a-lost-claim
+  pub somebody-holds : Supplied-steps (opening 2 rule-1) 0 0 lacking-a-held-claim

@@ -4,7 +4,7 @@ use mathlib.Core.Bool.{Bool, true, false, cond}
 use mathlib.Core.Option.{Option, none, some}
 use lib.Dec.{eqb}
 use Rattle.bits.specs.Digits.{bit}
-use Rattle.bits.specs.Words.{withBit, lowAgree}
+use Rattle.bits.specs.Words.{with-bit, low-agree}
 use Rattle.consensus.specs.Figure.{View, Does, blocked, goes, broadcasts, proposes, await, Figure}
 
 -- The line that a process is about to do, with the variables j, k, d that it or a later line may read, in this order; before them
@@ -19,7 +19,7 @@ pub data Place : Type 0 where
 -- figures"): the proof of termination has "prop[j] ≠ ⊥ by line 10", and the text finds "a non-empty proposal".
 abbrev pub fits : ℕ → ℕ → Option ℕ → Bool
 fits k d none = false
-fits k d (some v) = lowAgree k d v
+fits k d (some v) = low-agree k d v
 
 -- d = prop[j], in line 11: no number equals ⊥
 abbrev pub equals : ℕ → Option ℕ → Bool
@@ -39,7 +39,7 @@ line x (line7 j k d) = goes (line8 j k d)
 -- 8 d[k] ← B-Consensus[0][k](prop[j][k]): the call, and its return. ⊥ has no bits, so a process that met it here could do nothing;
 -- that none ever does is part of demand 2
 line x (line8 j k d) = await (x .prop j) (λ v. proposes (2 * k) (bit k v) (in8 j k d))
-line x (in8 j k d) = await (x .decided (2 * k)) (λ a. goes (line9 j k (withBit k a d)))
+line x (in8 j k d) = await (x .decided (2 * k)) (λ a. goes (line9 j k (with-bit k a d)))
 -- 9 repeat j ← (j + 1) mod n
 line x (line9 j k d) = goes (line10 ((j + 1) % x .count) k d)
 -- 10 until [prop[j] ≠ ⊥ and d[k..0] = prop[j][k..0]]

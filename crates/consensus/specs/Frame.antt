@@ -20,5 +20,5 @@ pub record Stays (o : Opening) (st : State) (e : Event) : Type 0 where
       → (next o st e .station s .cast b ≡ st .station s .cast b) ⊎ ((e ≡ step s) × (ballot-at o (st .station s .stage) ≡ some b))
   pub answers : (b : ℕ) → (next o st e .answer-of b ≡ st .answer-of b) ⊎ ((a : ℕ) × (e ≡ answer b a))
 
-pub record Frame : Type 0 where
+pub record Play-frame : Type 0 where
   pub stays : (o : Opening) (st : State) (e : Event) → Stays o st e

@@ -14,6 +14,7 @@
 --     Demand2     demand 2 about the play
 --     Lines       runs of single printed lines end where the play ends
 --     Examples    lists that tell the four false readings apart, and lists that meet the bounds
+--     Misread     figure 2 with line 10 or 11 read otherwise, run to its end
 --     Rows        numbers and STEPs of the play as literals
 --     Edges       the words of demand 3 at their edges, as literals
 pub mod Events
@@ -31,5 +32,6 @@ pub mod Runs
 pub mod Demand2
 pub mod Lines
 pub mod Examples
+pub mod Misread
 pub mod Rows
 pub mod Edges

@@ -8,7 +8,7 @@ use mathlib.Core.Option.{Option, none, some}
 use mathlib.Core.List.{List, [], _∷_, _++_}
 use lib.Dec.{eqb}
 use Rattle.bits.specs.Examples.{every}
-use Rattle.consensus.specs.Events.{Event, claim, deliver, step, lose, answer, History, start, _▷_, Rule, byStation, byClaim, Opening}
+use Rattle.consensus.specs.Events.{Event, claim, deliver, step, lose, answer, History, start, _▷_, Rule, rule-1, rule-2, Opening}
 use Rattle.consensus.specs.State.{Stage, idle, waiting, voting, awaiting, seeking, finish-voting, finish-awaiting, decided, Station, State}
 use Rattle.consensus.specs.Rules.{number, after}
 use Rattle.consensus.specs.Terms.{is-step, listed}
@@ -24,9 +24,9 @@ pub data Row : Type 0 where
   numbered : ℕ → Rule → History → Event → ℕ → Row
   made-up : ℕ → Rule → State → Event → ℕ → Row
 
-unfoldable pub right : Row → Bool
-right (numbered n r h e m) = eqb (number (opening n r) (after (opening n r) h) e) m
-right (made-up n r st e m) = eqb (number (opening n r) st e) m
+unfoldable pub number-right : Row → Bool
+number-right (numbered n r h e m) = eqb (number (opening n r) (after (opening n r) h) e) m
+number-right (made-up n r st e m) = eqb (number (opening n r) st e) m
 
 -- Station 0 put in 6, holds it and has cast 0 in ballot 0; station 1 put in 9, holds it and is lost; station 2 is lost and idle, station 3 idle.
 abbrev pub four : History
@@ -56,13 +56,13 @@ numbers-by r =
 -- 7, and a decided station that is lost: 2; 8 of an unanswered finish ballot; ballots, in number R or 64: 9, before 10
 abbrev pub numbers-apart : List Row
 numbers-apart =
-    numbered 1 byStation (start ▷ claim 0 5 ▷ deliver 0 0 ▷ step 0) (step 0) 7 ∷ numbered 1 byStation (start ▷ claim 0 5 ▷ deliver 0 0 ▷ step 0 ▷ lose 0) (step 0) 2
-    ∷ numbered 3 byClaim lone-two-bits (step 0) 7 ∷ numbered 3 byClaim (lone-two-bits ▷ lose 0) (step 0) 2
-    ∷ numbered 1 byClaim (start ▷ claim 0 0 ▷ deliver 0 0 ▷ step 0 ▷ step 0 ▷ answer 0 0 ▷ step 0 ▷ step 0 ▷ step 0) (step 0) 8
-    ∷ numbered 32 byStation start (answer 4 0) 12 ∷ numbered 32 byStation start (answer 5 0) 9 ∷ numbered 32 byStation start (answer 5 2) 9
-    ∷ numbered 17 byStation start (answer 4 0) 12 ∷ numbered 17 byStation start (answer 5 0) 9 ∷ numbered 16 byStation start (answer 4 0) 9
-    ∷ numbered 32 byClaim start (answer 63 0) 12 ∷ numbered 32 byClaim start (answer 64 0) 9 ∷ numbered 32 byClaim start (answer 64 2) 9
-    ∷ numbered 32 byStation start (claim 31 0) 0 ∷ numbered 32 byStation start (claim 32 0) 1 ∷ numbered 1 byStation start (answer 0 0) 9 ∷ []
+    numbered 1 rule-1 (start ▷ claim 0 5 ▷ deliver 0 0 ▷ step 0) (step 0) 7 ∷ numbered 1 rule-1 (start ▷ claim 0 5 ▷ deliver 0 0 ▷ step 0 ▷ lose 0) (step 0) 2
+    ∷ numbered 3 rule-2 lone-two-bits (step 0) 7 ∷ numbered 3 rule-2 (lone-two-bits ▷ lose 0) (step 0) 2
+    ∷ numbered 1 rule-2 (start ▷ claim 0 0 ▷ deliver 0 0 ▷ step 0 ▷ step 0 ▷ answer 0 0 ▷ step 0 ▷ step 0 ▷ step 0) (step 0) 8
+    ∷ numbered 32 rule-1 start (answer 4 0) 12 ∷ numbered 32 rule-1 start (answer 5 0) 9 ∷ numbered 32 rule-1 start (answer 5 2) 9
+    ∷ numbered 17 rule-1 start (answer 4 0) 12 ∷ numbered 17 rule-1 start (answer 5 0) 9 ∷ numbered 16 rule-1 start (answer 4 0) 9
+    ∷ numbered 32 rule-2 start (answer 63 0) 12 ∷ numbered 32 rule-2 start (answer 64 0) 9 ∷ numbered 32 rule-2 start (answer 64 2) 9
+    ∷ numbered 32 rule-1 start (claim 31 0) 0 ∷ numbered 32 rule-1 start (claim 32 0) 1 ∷ numbered 1 rule-1 start (answer 0 0) 9 ∷ []
 
 -- made-up states: every station, those from n on too, has the one part, and every ballot the one answer
 abbrev all-alike : Stage → (holds lost : Bool) → Option Bool → State
@@ -74,21 +74,21 @@ all-alike g x y a = record {
 -- 1 before 2, 3, 4, 5, 6 and 7; 4 before 5; 9 before 11; 42, of the last ballot and the answer 0 alone
 abbrev pub numbers-made-up : List Row
 numbers-made-up =
-    made-up 2 byStation (all-alike (decided 7 0) true true none) (claim 2 5) 1 ∷ made-up 2 byStation (all-alike (decided 7 0) true true none) (deliver 2 0) 1
-    ∷ made-up 2 byStation (all-alike (decided 7 0) true true none) (step 2) 1 ∷ made-up 2 byStation (all-alike idle true true none) (step 2) 1
-    ∷ made-up 2 byStation (all-alike idle true true none) (lose 2) 1 ∷ made-up 2 byStation (all-alike idle true false none) (deliver 0 0) 4
-    ∷ made-up 2 byStation (all-alike idle true true (some true)) (answer 1 1) 9 ∷ made-up 2 byStation (all-alike idle true true (some true)) (answer 0 1) 11
-    ∷ made-up 2 byClaim (all-alike (finish-awaiting 0 31 0) true false (some false)) (step 0) 42
-    ∷ made-up 2 byClaim (all-alike (finish-awaiting 0 31 0) true false (some true)) (step 0) 0
-    ∷ made-up 2 byClaim (all-alike (finish-awaiting 0 30 0) true false (some false)) (step 0) 0
-    ∷ made-up 2 byClaim (all-alike (finish-awaiting 0 31 0) true false none) (step 0) 8
-    ∷ made-up 2 byClaim (all-alike (finish-awaiting 0 31 0) true true (some false)) (step 0) 2 ∷ []
+    made-up 2 rule-1 (all-alike (decided 7 0) true true none) (claim 2 5) 1 ∷ made-up 2 rule-1 (all-alike (decided 7 0) true true none) (deliver 2 0) 1
+    ∷ made-up 2 rule-1 (all-alike (decided 7 0) true true none) (step 2) 1 ∷ made-up 2 rule-1 (all-alike idle true true none) (step 2) 1
+    ∷ made-up 2 rule-1 (all-alike idle true true none) (lose 2) 1 ∷ made-up 2 rule-1 (all-alike idle true false none) (deliver 0 0) 4
+    ∷ made-up 2 rule-1 (all-alike idle true true (some true)) (answer 1 1) 9 ∷ made-up 2 rule-1 (all-alike idle true true (some true)) (answer 0 1) 11
+    ∷ made-up 2 rule-2 (all-alike (finish-awaiting 0 31 0) true false (some false)) (step 0) 42
+    ∷ made-up 2 rule-2 (all-alike (finish-awaiting 0 31 0) true false (some true)) (step 0) 0
+    ∷ made-up 2 rule-2 (all-alike (finish-awaiting 0 30 0) true false (some false)) (step 0) 0
+    ∷ made-up 2 rule-2 (all-alike (finish-awaiting 0 31 0) true false none) (step 0) 8
+    ∷ made-up 2 rule-2 (all-alike (finish-awaiting 0 31 0) true true (some false)) (step 0) 2 ∷ []
 
-pub record Numbers : Type 0 where
-  pub by-station : every right (numbers-by byStation) ≡ true
-  pub by-claim : every right (numbers-by byClaim) ≡ true
-  pub apart : every right numbers-apart ≡ true
-  pub made-up : every right numbers-made-up ≡ true
+pub record Play-numbers : Type 0 where
+  pub by-station : every number-right (numbers-by rule-1) ≡ true
+  pub by-claim : every number-right (numbers-by rule-2) ≡ true
+  pub apart : every number-right numbers-apart ≡ true
+  pub made-up : every number-right numbers-made-up ≡ true
 
 -- ---- what one STEP does
 
@@ -120,25 +120,25 @@ casts n r h p = (after (opening n r) h .station p .cast 0, after (opening n r) h
 
 pub record Walks : Type 0 where
   -- by station with one station: its own claim at once
-  pub at-once : walk (opening 1 byStation) 0 alone ≡ decided 5 0 ∷ []
-  pub not-at-once : walk (opening 1 byClaim) 0 alone ≡ voting 0 0 0 ∷ []
+  pub at-once : walk (opening 1 rule-1) 0 alone ≡ decided 5 0 ∷ []
+  pub not-at-once : walk (opening 1 rule-2) 0 alone ≡ voting 0 0 0 ∷ []
   -- station 1's second-last step tries station 0, whose claim it lacks
-  pub S-0 : walk (opening 2 byStation) 0 case-S ≡ voting 0 0 0 ∷ awaiting 0 0 0 ∷ seeking 0 0 1 ∷ decided 9 0 ∷ []
-  pub S-1 : walk (opening 2 byStation) 1 case-S ≡ voting 1 0 0 ∷ awaiting 1 0 0 ∷ seeking 1 0 1 ∷ seeking 0 0 1 ∷ decided 9 0 ∷ []
-  pub S-casts : (casts 2 byStation case-S 0 ≡ (some false, none)) × (casts 2 byStation case-S 1 ≡ (some true, none))
+  pub S-0 : walk (opening 2 rule-1) 0 case-S ≡ voting 0 0 0 ∷ awaiting 0 0 0 ∷ seeking 0 0 1 ∷ decided 9 0 ∷ []
+  pub S-1 : walk (opening 2 rule-1) 1 case-S ≡ voting 1 0 0 ∷ awaiting 1 0 0 ∷ seeking 1 0 1 ∷ seeking 0 0 1 ∷ decided 9 0 ∷ []
+  pub S-casts : (casts 2 rule-1 case-S 0 ≡ (some false, none)) × (casts 2 rule-1 case-S 1 ≡ (some true, none))
   -- two rounds; the cursor goes around 3
-  pub three : walk (opening 3 byStation) 0 lone-of-three
+  pub three : walk (opening 3 rule-1) 0 lone-of-three
       ≡ voting 0 0 0 ∷ awaiting 0 0 0 ∷ seeking 0 0 0 ∷ seeking 1 0 0 ∷ seeking 2 0 0
       ∷ voting 0 1 0 ∷ awaiting 0 1 0 ∷ seeking 0 1 0 ∷ seeking 1 1 0 ∷ seeking 2 1 0 ∷ decided 7 1 ∷ []
   -- the finish answer 0 adds 1 to the round and keeps cursor and word; 1 decides the word
-  pub D-0 : walk (opening 2 byClaim) 0 case-D
+  pub D-0 : walk (opening 2 rule-2) 0 case-D
       ≡ voting 0 0 0 ∷ awaiting 0 0 0 ∷ seeking 0 0 1 ∷ finish-voting 1 0 1 ∷ finish-awaiting 1 0 1
       ∷ voting 1 1 1 ∷ awaiting 1 1 1 ∷ seeking 1 1 3 ∷ seeking 0 1 3 ∷ finish-voting 1 1 3 ∷ finish-awaiting 1 1 3 ∷ decided 3 1 ∷ []
-  pub D-1 : walk (opening 2 byClaim) 1 case-D
+  pub D-1 : walk (opening 2 rule-2) 1 case-D
       ≡ voting 1 0 0 ∷ awaiting 1 0 0 ∷ seeking 1 0 1 ∷ finish-voting 0 0 1 ∷ finish-awaiting 0 0 1
       ∷ voting 0 1 1 ∷ awaiting 0 1 1 ∷ seeking 0 1 3 ∷ finish-voting 1 1 3 ∷ finish-awaiting 1 1 3 ∷ decided 3 1 ∷ []
   -- finish votes: 0 from station 0, whose cursor is at 3, and 1 from station 1, whose cursor is at 1
-  pub D-casts : (casts 2 byClaim case-D 0 ≡ (some true, some false)) × (casts 2 byClaim case-D 1 ≡ (some true, some true))
+  pub D-casts : (casts 2 rule-2 case-D 0 ≡ (some true, some false)) × (casts 2 rule-2 case-D 1 ≡ (some true, some true))
   -- the figures, run over the same lists, return what the play decides
-  pub figure-1 : figure-after (opening 2 byStation) case-S .process 1 .place ≡ one.returned (some 9)
-  pub figure-2 : figure-after (opening 2 byClaim) case-D .process 1 .place ≡ two.returned 3
+  pub figure-1 : figure-after (opening 2 rule-1) case-S .process 1 .place ≡ one.returned (some 9)
+  pub figure-2 : figure-after (opening 2 rule-2) case-D .process 1 .place ≡ two.returned 3

@@ -5,18 +5,18 @@ use mathlib.Core.Bool.{Bool, true, false, cond, not, _&&_, _||_, Bool·beq}
 use mathlib.Core.Option.{Option, none, some}
 use lib.Dec.{eqb, ltb}
 use Rattle.bits.specs.Digits.{bit}
-use Rattle.bits.specs.Words.{withBit, lowAgree}
+use Rattle.bits.specs.Words.{with-bit, low-agree}
 use Rattle.basics.specs.Tests.{refuse}
 use Rattle.basics.specs.Below.{any-below}
-use Rattle.consensus.specs.Events.{Event, claim, deliver, step, lose, answer, History, start, _▷_, Rule, byStation, byClaim, Opening, rounds, ballots}
+use Rattle.consensus.specs.Events.{Event, claim, deliver, step, lose, answer, History, start, _▷_, Rule, rule-1, rule-2, Opening, rounds, ballots}
 use Rattle.consensus.specs.State.{Stage, idle, waiting, voting, awaiting, seeking, finish-voting, finish-awaiting, decided, Station, State, fresh, claimed, claim-of, held, answered, bit-of, update, set-station, with-stage}
 
 -- ---- ballots and bits
 
 -- the ballot that settles bit k: k by station, 2k by claim; and the one that settles whether to finish after bit k, 2k + 1
 abbrev pub bit-ballot-by : Rule → ℕ → ℕ
-bit-ballot-by byStation k = k
-bit-ballot-by byClaim k = 2 * k
+bit-ballot-by rule-1 k = k
+bit-ballot-by rule-2 k = 2 * k
 
 abbrev pub bit-ballot : Opening → ℕ → ℕ
 bit-ballot o k = bit-ballot-by (o .rule) k
@@ -26,8 +26,8 @@ finish-ballot k = 2 * k + 1
 
 -- what the bits of station j are read of: its number by station, its claim by claim
 abbrev pub spelled-by : Rule → State → ℕ → ℕ
-spelled-by byStation st j = j
-spelled-by byClaim st j = claim-of st j
+spelled-by rule-1 st j = j
+spelled-by rule-2 st j = claim-of st j
 
 abbrev pub spelled : Opening → State → ℕ → ℕ
 spelled o st j = spelled-by (o .rule) st j
@@ -82,18 +82,18 @@ number o st (answer b a) =
 
 -- the first step: by station with one station, the own claim is decided at once
 abbrev pub first-stage : Rule → ℕ → ℕ → ℕ → Stage
-first-stage byStation n s v = cond (eqb n 1) (decided v 0) (voting s 0 0)
-first-stage byClaim n s v = voting s 0 0
+first-stage rule-1 n s v = cond (eqb n 1) (decided v 0) (voting s 0 0)
+first-stage rule-2 n s v = voting s 0 0
 
 -- seeking ends at j: by station the claim of j is decided after the last round, else the next round begins; by claim the finish ballot comes
-abbrev pub found : Opening → State → Rule → ℕ → ℕ → ℕ → Stage
-found o st byStation j k d = cond (eqb (suc k) (rounds o)) (decided (claim-of st j) k) (voting j (suc k) d)
-found o st byClaim j k d = finish-voting j k d
+abbrev pub stage-after-seek : Opening → State → Rule → ℕ → ℕ → ℕ → Stage
+stage-after-seek o st rule-1 j k d = cond (eqb (suc k) (rounds o)) (decided (claim-of st j) k) (voting j (suc k) d)
+stage-after-seek o st rule-2 j k d = finish-voting j k d
 
 -- the cursor is at j: its claim is held and fits the word in the low k + 1 bits, or the station goes on seeking
 abbrev pub sought : Opening → State → ℕ → ℕ → ℕ → ℕ → Stage
 sought o st s j k d =
-    cond (held st s j && lowAgree k d (spelled o st j)) (found o st (o .rule) j k d) (seeking j k d)
+    cond (held st s j && low-agree k d (spelled o st j)) (stage-after-seek o st (o .rule) j k d) (seeking j k d)
 
 -- the finish answer 1 decides the word; 0 begins the next round
 abbrev pub finished : Bool → ℕ → ℕ → ℕ → Stage
@@ -108,7 +108,7 @@ unfoldable pub step-from : Opening → State → ℕ → Stage → Station → S
 step-from o st s idle p = p
 step-from o st s waiting p = with-stage (first-stage (o .rule) (o .count) s (p .own-claim)) p
 step-from o st s (voting j k d) p = casting (bit-ballot o k) (bit k (spelled o st j)) (awaiting j k d) p
-step-from o st s (awaiting j k d) p = with-stage (seeking j k (withBit k (bit-of (st .answer-of (bit-ballot o k))) d)) p
+step-from o st s (awaiting j k d) p = with-stage (seeking j k (with-bit k (bit-of (st .answer-of (bit-ballot o k))) d)) p
 step-from o st s (seeking j k d) p = with-stage (sought o st s ((j + 1) % o .count) k d) p
 step-from o st s (finish-voting j k d) p = casting (finish-ballot k) (eqb d (claim-of st j)) (finish-awaiting j k d) p
 step-from o st s (finish-awaiting j k d) p = with-stage (finished (bit-of (st .answer-of (finish-ballot k))) j k d) p

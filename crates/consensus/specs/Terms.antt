@@ -7,8 +7,8 @@ use mathlib.Core.Bool.{Bool, true, false, cond, _&&_}
 use mathlib.Core.Option.{Option, none, some}
 use mathlib.Core.List.{List, [], _∷_, _++_}
 use lib.Dec.{eqb}
-use Rattle.bits.specs.Digits.{bitLength}
-use Rattle.bits.specs.Words.{claimBits}
+use Rattle.bits.specs.Digits.{bit-length}
+use Rattle.bits.specs.Words.{claim-bits}
 use Rattle.consensus.specs.Events.{Event, claim, deliver, step, lose, answer, History, start, _▷_, Opening}
 use Rattle.consensus.specs.State.{Stage, idle, waiting, voting, awaiting, seeking, finish-voting, finish-awaiting, decided}
 use Rattle.consensus.specs.Rules.{bit-ballot, finish-ballot, as-bit, number, after}
@@ -20,7 +20,7 @@ Beginning g (h ▷ e) = (g ≡ (h ▷ e)) ⊎ Beginning g h
 
 -- every claim of the list is below 2 ^ 32, as document 01 has claims
 abbrev pub Fitting : Event → Type 0
-Fitting (claim s v) = v < 2 ^ claimBits
+Fitting (claim s v) = v < 2 ^ claim-bits
 Fitting (deliver t s) = Unit {0}
 Fitting (step s) = Unit {0}
 Fitting (lose s) = Unit {0}
@@ -71,7 +71,7 @@ given b ok (answer c a) = cond (ok && eqb c b) (some (as-bit a)) none
 
 -- the length of the claim that an accepted event puts in
 abbrev pub put-length : Bool → Event → ℕ
-put-length ok (claim s v) = cond ok (bitLength v) 0
+put-length ok (claim s v) = cond ok (bit-length v) 0
 put-length ok (deliver t s) = 0
 put-length ok (step s) = 0
 put-length ok (lose s) = 0

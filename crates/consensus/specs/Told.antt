@@ -5,7 +5,7 @@ use mathlib.Core.Logic.{_↔_, _⊎_}
 use mathlib.Core.Bool.{Bool, true}
 use mathlib.Core.Option.{Option, none, some}
 use mathlib.Core.List.{List, [], _∷_}
-use Rattle.bits.specs.Digits.{bitLength}
+use Rattle.bits.specs.Digits.{bit-length}
 use Rattle.consensus.specs.Events.{claim, History, start, _▷_, Opening}
 use Rattle.consensus.specs.State.{Stage, idle, waiting, voting, awaiting, seeking, finish-voting, finish-awaiting, decided, State, claimed, claim-of, held, answered}
 use Rattle.consensus.specs.Rules.{bit-ballot, finish-ballot, after}
@@ -53,8 +53,8 @@ module _ (o : Opening) (h : History) where
         → Listed (b, a) (answers-taken o p h) ↔ (Listed b (voted-in o p h) × (waits-on o p h ≡ some b → ⊥) × (first-answer o h b ≡ some a))
     pub has-decided : (p v : ℕ) → Decided o p v h ↔ (decision (after o h .station p .stage) ≡ some v)
     -- K: no claim put in is longer, and one is as long, unless nothing was put in
-    pub none-longer : (s v : ℕ) → Put-in o s v h → bitLength v ≤ longest o h
-    pub as-long : (longest o h ≡ 0) ⊎ ((s : ℕ) × (v : ℕ) × Put-in o s v h × (bitLength v ≡ longest o h))
+    pub none-longer : (s v : ℕ) → Put-in o s v h → bit-length v ≤ longest o h
+    pub as-long : (longest o h ≡ 0) ⊎ ((s : ℕ) × (v : ℕ) × Put-in o s v h × (bit-length v ≡ longest o h))
     pub is-supplied : (p : ℕ) → Supplied o p h ↔ Supplied-in o (after o h) p
 
 -- every opening, every list

@@ -2,19 +2,19 @@
 use Prim.Native.Nat.{ℕ, _*_}
 use mathlib.Core.Bool.{Bool, true, false, cond, not}
 use lib.Dec.{eqb, ltb}
-use Rattle.bits.specs.Log.{ceilLog2}
-use Rattle.bits.specs.Words.{claimBits, insert}
+use Rattle.bits.specs.Log.{ceil-log2}
+use Rattle.bits.specs.Words.{claim-bits, insert}
 use Rattle.entry.specs.declared.entry.Stage.{Stage}
 use Rattle.entry.specs.declared.entry.Stage.the-variants.{Idle, Waiting}
 use Rattle.entry.specs.declared.entry.Station.{Station}
 use Rattle.entry.specs.declared.entry.Ballot.{Ballot}
 
 -- how many entries a record has
-abbrev pub stationEntries : ℕ
-stationEntries = 32
+abbrev pub station-entries : ℕ
+station-entries = 32
 
-abbrev pub ballotEntries : ℕ
-ballotEntries = 2 * claimBits
+abbrev pub ballot-entries : ℕ
+ballot-entries = 2 * claim-bits
 
 -- "each of the 32 entries starts idle, live, holding nothing, with claim, cursor and decision 0"; the round and the word start at 0 too
 abbrev pub blank-station : Station
@@ -35,7 +35,7 @@ by-station rule = eqb rule 1
 
 -- "rule 1 has ballots 0 to R−1. Rule 2 has ballots 0 to 63"; "a record without stations has no ballots under either rule"
 abbrev pub ballots : ℕ → ℕ → ℕ
-ballots n rule = cond (eqb n 0) 0 (cond (by-station rule) (ceilLog2 n) ballotEntries)
+ballots n rule = cond (eqb n 0) 0 (cond (by-station rule) (ceil-log2 n) ballot-entries)
 
 -- the ballot that settles bit k: k by station, 2k by claim
 abbrev pub bit-ballot : ℕ → ℕ → ℕ

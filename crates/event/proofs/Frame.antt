@@ -12,9 +12,9 @@ use Rattle.entry.specs.declared.entry.Ballot.{Ballot}
 use Rattle.event.specs.declared.view.View.{View}
 use Rattle.entry.specs.Entries.{by-station, claiming, holding, losing, moved, casting, answering}
 use Rattle.event.specs.Places.{next-cursor}
-use Rattle.event.specs.Step.{next-round, at-once, started, staged, bit-taken, finish-taken, last-round, found, seeking-ends, sought, stepped, bit-voted, finish-voted, voted}
+use Rattle.event.specs.Step.{next-round, at-once, started, staged, bit-taken, finish-taken, last-round, entry-after-seek, seeking-ends, sought, stepped, bit-voted, finish-voted, voted}
 use Rattle.event.specs.Change.{own-after, ballot-after}
-use Rattle.event.specs.Frame.{Part, its-stage, its-lost, its-held, its-claim, its-cursor, its-round, its-word, its-decision, its-cast0, its-cast1, its-answered, its-answer, named, All-but, step-names, names, Frame}
+use Rattle.event.specs.Frame.{Part, its-stage, its-lost, its-held, its-claim, its-cursor, its-round, its-word, its-decision, its-cast0, its-cast1, its-answered, its-answer, named, All-but, step-names, names, Entry-frame}
 
 on : {A : Type 0} {x : A} {named : Bool} → named ≡ false → x ≡ x
 on e = refl
@@ -105,7 +105,7 @@ seek-frame v j true false last e = parts off on on on off on on on on on on on
 seek-frame v j false station last e = parts (λ n. e) on on on off on on on on on on on
 
 step-frame : (v : View) (s : ℕ) (g : Stage) → g ≡ v .own .stage → All-but (step-names v g) (v .own) (stepped v s g) (v .ballot) (voted v g)
-unfolding step-names stepped started bit-taken finish-taken found sought voted
+unfolding step-names stepped started bit-taken finish-taken entry-after-seek sought voted
 step-frame v s Idle e = nothing (v .own) (v .ballot)
 step-frame v s Waiting e = first-frame v s (at-once v)
 step-frame v s Voting e = vote-frame (bit-voted v) Awaiting (v .own) (v .ballot)
@@ -117,7 +117,7 @@ step-frame v s FinishVoting e = vote-frame (finish-voted v) FinishAwaiting (v .o
 step-frame v s FinishAwaiting e = finish-frame v (v .ballot .answer)
 step-frame v s Decided e = nothing (v .own) (v .ballot)
 
-pub frame : Frame
+pub frame : Entry-frame
 unfolding names own-after ballot-after
 frame v (claim s c) = claim-frame (v .own) (v .ballot) c
 frame v (deliver t s) = deliver-frame (v .own) (v .ballot) t

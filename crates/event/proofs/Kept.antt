@@ -8,7 +8,7 @@ use borrow.Author.Tests.{eqb-true, eqb-false, ltb-true, ltb-false}
 use Rattle.basics.specs.Tests.{first-met}
 use Rattle.basics.proofs.Bools.{by-bool, cond-ind, no-clash, not-false→true}
 use Rattle.basics.proofs.Refusals.{refused-not}
-use Rattle.bits.specs.Words.{maskBits, member, insert}
+use Rattle.bits.specs.Words.{mask-bits, member, insert}
 use Rattle.bits.proofs.Words.{word-outside}
 use Rattle.bits.proofs.Masks.{member-same, member-other}
 use Rattle.consensus.specs.Events.{Event, claim, deliver, step, lose, answer}
@@ -21,22 +21,22 @@ use Rattle.event.specs.declared.view.View.{View}
 use Rattle.entry.specs.Stages.{at, not-idle, is-decided}
 use Rattle.entry.specs.Entries.{no-station, ballots, by-station, was-cast, moved, casting, answering}
 use Rattle.event.specs.Places.{next-cursor}
-use Rattle.event.specs.Step.{at-once, last-round, seeking-ends, bit-voted, finish-voted, started, bit-taken, finish-taken, found, sought, stepped, voted}
+use Rattle.event.specs.Step.{at-once, last-round, seeking-ends, bit-voted, finish-voted, started, bit-taken, finish-taken, entry-after-seek, sought, stepped, voted}
 use Rattle.event.specs.Change.{number-on, own-after, ballot-after}
 use Rattle.event.specs.Frame.{Kept, Never-taken-back}
 
 -- ---- a claim held stays held
 
-insert-outside : (t mask : ℕ) → ltb t maskBits ≡ false → insert t mask ≡ mask
+insert-outside : (t mask : ℕ) → ltb t mask-bits ≡ false → insert t mask ≡ mask
 unfolding insert
-insert-outside t mask e = word-outside maskBits t true mask (ltb-false t maskBits e)
+insert-outside t mask e = word-outside mask-bits t true mask (ltb-false t mask-bits e)
 
 held-grows : (i t mask : ℕ) → member i mask ≡ true → member i (insert t mask) ≡ true
 held-grows i t mask m = by-bool (eqb i t) (λ p. same (eqb-true i t p)) (λ p. member-other i t mask (eqb-false i t p) ∙ m)
   where
     same : i ≡ t → member i (insert t mask) ≡ true
     same q =
-        by-bool (ltb t maskBits) (λ l. ap (λ (x : ℕ). member x (insert t mask)) q ∙ member-same t mask (ltb-true t maskBits l))
+        by-bool (ltb t mask-bits) (λ l. ap (λ (x : ℕ). member x (insert t mask)) q ∙ member-same t mask (ltb-true t mask-bits l))
         (λ l. ap (member i) (insert-outside t mask l) ∙ m)
 
 -- ---- CLAIM, DELIVER, LOSE and ANSWER
@@ -126,7 +126,7 @@ moved-on : {t : Station} {g : Stage} {j k d v : ℕ} → not-idle g ≡ true →
 moved-on p = record { stage = p; claim = refl; held = refl }
 
 onward : (v : View) (s : ℕ) (g : Stage) → g ≡ v .own .stage → not-idle g ≡ true → Onward (v .own) (stepped v s g)
-unfolding stepped started bit-taken finish-taken found sought
+unfolding stepped started bit-taken finish-taken entry-after-seek sought
 onward v s Idle q p = absurd (true≢false (sym p))
 onward v s Waiting q p = cond-ind (Onward (v .own)) (at-once v) _ _ (λ b. moved-on refl) (λ b. moved-on refl)
 onward v s Voting q p = moved-on refl

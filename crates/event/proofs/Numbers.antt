@@ -20,7 +20,7 @@ use Rattle.entry.proofs.Stages.{told-apart}
 use Rattle.event.specs.declared.view.View.{View}
 use Rattle.event.specs.Tests.{must-wait, last-ballot, takes-last-no}
 use Rattle.event.specs.Change.{number-on}
-use Rattle.event.specs.Numbers.{Met, Must-wait, Takes-last-no, Nobody-cast, Number-is, Numbers}
+use Rattle.event.specs.Numbers.{Met, Must-wait, Takes-last-no, Nobody-cast, Number-is, Entry-numbers}
 
 -- ---- tests and sentences
 
@@ -97,7 +97,7 @@ nobody v a small = go (eqb a 1) refl
 
 -- ---- the five events
 
-pub numbers : Numbers
+pub numbers : Entry-numbers
 unfolding first-met Number-is
 numbers v (claim s c) =
     met _ _ _ _ (past (v .count) s) refl (λ p1 e1. met _ _ _ _ (is (v .own .lost)) e1 (λ p2 e2. met _ _ 0 _ (tells-not (at Idle (v .own .stage)) (told-apart Idle (v .own .stage))) e2 (λ p3 e3. e3)))

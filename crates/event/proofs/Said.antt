@@ -10,8 +10,8 @@ use lib.Dec.{eqb}
 use borrow.Author.Tests.{eqb-true, eqb-false, eq-eqb, ne-eqb}
 use Rattle.basics.proofs.Bools.{by-bool, cond-ind, no-clash, and-true}
 use Rattle.bits.specs.Digits.{bit}
-use Rattle.bits.specs.Log.{ceilLog2}
-use Rattle.bits.specs.Words.{claimBits, wordWithBit, lowAgree, member}
+use Rattle.bits.specs.Log.{ceil-log2}
+use Rattle.bits.specs.Words.{claim-bits, word-with-bit, low-agree, member}
 use Rattle.bits.proofs.Masks.{member-same, member-other}
 use Rattle.bits.proofs.Words.{word-same, word-other, agree-bits, bits-agree}
 use Rattle.consensus.specs.Events.{claim, deliver, step, lose, answer}
@@ -22,7 +22,7 @@ use Rattle.entry.specs.Stages.{at}
 use Rattle.entry.specs.Entries.{by-station, spelled, moved, casting}
 use Rattle.event.specs.declared.view.View.{View}
 use Rattle.event.specs.Places.{next-cursor}
-use Rattle.event.specs.Step.{next-round, at-once, started, bit-taken, finish-taken, last-round, found, seeking-ends, sought, stepped, bit-voted, finish-voted, voted}
+use Rattle.event.specs.Step.{next-round, at-once, started, bit-taken, finish-taken, last-round, entry-after-seek, seeking-ends, sought, stepped, bit-voted, finish-voted, voted}
 use Rattle.event.specs.Change.{own-after, ballot-after}
 use Rattle.event.specs.Said.{Fits, Waiting-said, Voting-said, Awaiting-said, Seeking-said, Finish-voting-said, Finish-awaiting-said, Step-said, Said, All-said}
 use Rattle.event.proofs.Numbers.{Tells, tells-and, equal}
@@ -66,8 +66,8 @@ awaiting-said : (v : View) (s : ℕ) → Awaiting-said v (stepped v s Awaiting)
 unfolding stepped bit-taken
 awaiting-said v s =
     record {
-      taken = λ h. word-same claimBits (v .own .round) (v .ballot .answer) (v .own .word) h;
-      others = λ i d. word-other claimBits (v .own .round) i (v .ballot .answer) (v .own .word) d;
+      taken = λ h. word-same claim-bits (v .own .round) (v .ballot .answer) (v .own .word) h;
+      others = λ i d. word-other claim-bits (v .own .round) i (v .ballot .answer) (v .own .word) d;
       seeks = refl;
     }
 
@@ -105,7 +105,7 @@ fits v j = (there, back)
   where
     there : seeking-ends v j ≡ true → Fits v j
     there e =
-        let both = and-true (member j (v .own .held)) (lowAgree (v .own .round) (v .own .word) (spelled (v .rule) j (v .beside .claim))) e in
+        let both = and-true (member j (v .own .held)) (low-agree (v .own .round) (v .own .word) (spelled (v .rule) j (v .beside .claim))) e in
         let agree = agree-bits (v .own .round) (v .own .word) (spelled (v .rule) j (v .beside .claim)) (both .1) in
         record {
           is-held = both .0;
@@ -120,7 +120,7 @@ fits v j = (there, back)
         (λ p. let r = eqb-false (v .rule) 1 p in f .by-claim r i l ∙ ap (bit i) (sym (spelled-claim v j r)))
 
     back : Fits v j → seeking-ends v j ≡ true
-    back f = ap (λ (b : Bool). b && lowAgree (v .own .round) (v .own .word) (spelled (v .rule) j (v .beside .claim))) (f .is-held) ∙ bits-agree (v .own .round) (v .own .word) (spelled (v .rule) j (v .beside .claim)) (same f)
+    back f = ap (λ (b : Bool). b && low-agree (v .own .round) (v .own .word) (spelled (v .rule) j (v .beside .claim))) (f .is-held) ∙ bits-agree (v .own .round) (v .own .word) (spelled (v .rule) j (v .beside .claim)) (same f)
 
 next-is : (n j : ℕ) → 0 < n → next-cursor n j ≡ (j + 1) % n
 next-is n j l = ap (λ (b : Bool). cond b 0 ((j + 1) % n)) (ne-eqb n 0 (λ e. omega arith))
@@ -130,7 +130,7 @@ not-seeking : (g : Stage) → at Seeking g ≡ false → g ≡ Seeking → ⊥
 not-seeking g p e = true≢false (sym (ap (at Seeking) e) ∙ p)
 
 seeking-said : (v : View) (s : ℕ) → Seeking-said v (stepped v s Seeking)
-unfolding stepped sought found
+unfolding stepped sought entry-after-seek
 seeking-said v s =
     let j = next-cursor (v .count) (v .own .cursor) in
     let fit = fits v j in

@@ -32,10 +32,10 @@ abbrev pub same-ballot : Ballot → Ballot → Bool
 same-ballot b c =
     Bool·beq (b .cast0) (c .cast0) && Bool·beq (b .cast1) (c .cast1) && Bool·beq (b .answered) (c .answered) && Bool·beq (b .answer) (c .answer)
 
-abbrev pub right : Row → Bool
-right (gives v e k) = eqb (number-on v e) k
-right (leaves v e t b) = eqb (number-on v e) 0 && same-station (own-after v e) t && same-ballot (ballot-after v e) b
-right (looks v e o s b) = eqb (own-of e) o && eqb (beside-of (v .count) (v .own) e) s && eqb (ballot-of (v .rule) (v .own) e) b
+abbrev pub entry-row-right : Row → Bool
+entry-row-right (gives v e k) = eqb (number-on v e) k
+entry-row-right (leaves v e t b) = eqb (number-on v e) 0 && same-station (own-after v e) t && same-ballot (ballot-after v e) b
+entry-row-right (looks v e o s b) = eqb (own-of e) o && eqb (beside-of (v .count) (v .own) e) s && eqb (ballot-of (v .rule) (v .own) e) b
 
 -- a station at a stage, which holds the claims of the stations in the mask `held`, with claim c, cursor j, round k, word d and decision w
 abbrev pub live : Stage → (held c j k d w : ℕ) → Station
@@ -233,7 +233,7 @@ places =
     ∷ []
 
 -- every row is right
-pub record Rows-right : Type 0 where
-  pub numbers-right : every right numbers ≡ true
-  pub entries-right : every right entries ≡ true
-  pub places-right : every right places ≡ true
+pub record Entry-rows-right : Type 0 where
+  pub numbers-right : every entry-row-right numbers ≡ true
+  pub entries-right : every entry-row-right entries ≡ true
+  pub places-right : every entry-row-right places ≡ true

@@ -60,8 +60,8 @@ pub record All-but (l : List Part) (t u : Station) (b c : Ballot) : Type 0 where
 -- ---- which parts an event names
 
 -- seeking that ends at j: "rule 1 decides the claim of j if k + 1 = R, otherwise adds 1 to k and is voting; rule 2 is voting on ballot 2k+1"
-abbrev found-names : View → List Part
-found-names v = cond (by-station (v .rule)) (cond (last-round v) (its-stage ∷ its-decision ∷ []) (its-stage ∷ its-round ∷ [])) (its-stage ∷ [])
+abbrev seek-names : View → List Part
+seek-names v = cond (by-station (v .rule)) (cond (last-round v) (its-stage ∷ its-decision ∷ []) (its-stage ∷ its-round ∷ [])) (its-stage ∷ [])
 
 -- a vote: the stage, and the mark of the bit cast
 abbrev vote-names : Bool → List Part
@@ -73,7 +73,7 @@ step-names v Idle = []
 step-names v Waiting = its-cursor ∷ its-stage ∷ cond (at-once v) (its-decision ∷ []) []
 step-names v Voting = vote-names (bit-voted v)
 step-names v Awaiting = its-word ∷ its-stage ∷ []
-step-names v Seeking = its-cursor ∷ cond (seeking-ends v (next-cursor (v .count) (v .own .cursor))) (found-names v) []
+step-names v Seeking = its-cursor ∷ cond (seeking-ends v (next-cursor (v .count) (v .own .cursor))) (seek-names v) []
 step-names v FinishVoting = vote-names (finish-voted v)
 step-names v FinishAwaiting = its-stage ∷ cond (v .ballot .answer) its-decision its-round ∷ []
 step-names v Decided = []
@@ -87,8 +87,8 @@ names v (lose s) = its-lost ∷ []
 names v (answer b a) = its-answered ∷ its-answer ∷ []
 
 -- what it does not name stays
-abbrev pub Frame : Type 0
-Frame = (v : View) (e : Event) → All-but (names v e) (v .own) (own-after v e) (v .ballot) (ballot-after v e)
+abbrev pub Entry-frame : Type 0
+Entry-frame = (v : View) (e : Event) → All-but (names v e) (v .own) (own-after v e) (v .ballot) (ballot-after v e)
 
 -- ---- what no accepted event takes back
 

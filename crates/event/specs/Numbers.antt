@@ -45,5 +45,5 @@ Number-is v (answer b a) x =
     Met (ballots (v .count) (v .rule) ≤ b) 9 x
     (Met (1 < a) 10 x (Met (v .ballot .answered ≡ true) 11 x (Met (Nobody-cast v a) 12 x (x ≡ 0))))
 
-abbrev pub Numbers : Type 0
-Numbers = (v : View) (e : Event) → Number-is v e (number-on v e)
+abbrev pub Entry-numbers : Type 0
+Entry-numbers = (v : View) (e : Event) → Number-is v e (number-on v e)

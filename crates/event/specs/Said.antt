@@ -5,7 +5,7 @@ use mathlib.Core.Path.{_≡_}
 use mathlib.Core.Logic.{_↔_}
 use mathlib.Core.Bool.{Bool, true, false}
 use Rattle.bits.specs.Digits.{bit}
-use Rattle.bits.specs.Log.{ceilLog2}
+use Rattle.bits.specs.Log.{ceil-log2}
 use Rattle.bits.specs.Words.{member}
 use Rattle.consensus.specs.Events.{claim, deliver, step, lose, answer}
 use Rattle.entry.specs.declared.entry.Stage.the-variants.{Waiting, Voting, Awaiting, Seeking, FinishVoting, FinishAwaiting, Decided}
@@ -48,9 +48,9 @@ pub record Seeking-said (v : View) (u : Station) : Type 0 where
   -- "If the claim of j is held, and .., seeking ends .. If not, it stays seeking"
   pub ends : (u .stage ≡ Seeking → ⊥) ↔ Fits v (u .cursor)
   -- "rule 1 decides the claim of j if k + 1 = R, otherwise adds 1 to k and is voting; rule 2 is voting on ballot 2k+1"
-  pub last : Fits v (u .cursor) → v .rule ≡ 1 → v .own .round + 1 ≡ ceilLog2 (v .count) → (u .stage ≡ Decided) × (u .decision ≡ v .beside .claim)
-  pub next : Fits v (u .cursor) → v .rule ≡ 1 → (v .own .round + 1 ≡ ceilLog2 (v .count) → ⊥) → u .stage ≡ Voting
-  pub adds : Fits v (u .cursor) → v .rule ≡ 1 → (v .own .round + 1 ≡ ceilLog2 (v .count) → ⊥) → v .own .round < 255 → u .round ≡ v .own .round + 1
+  pub last : Fits v (u .cursor) → v .rule ≡ 1 → v .own .round + 1 ≡ ceil-log2 (v .count) → (u .stage ≡ Decided) × (u .decision ≡ v .beside .claim)
+  pub next : Fits v (u .cursor) → v .rule ≡ 1 → (v .own .round + 1 ≡ ceil-log2 (v .count) → ⊥) → u .stage ≡ Voting
+  pub adds : Fits v (u .cursor) → v .rule ≡ 1 → (v .own .round + 1 ≡ ceil-log2 (v .count) → ⊥) → v .own .round < 255 → u .round ≡ v .own .round + 1
   pub finish : Fits v (u .cursor) → (v .rule ≡ 1 → ⊥) → u .stage ≡ FinishVoting
 
 pub record Finish-voting-said (v : View) (u : Station) (c : Ballot) : Type 0 where

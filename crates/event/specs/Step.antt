@@ -4,8 +4,8 @@ use Prim.Native.Nat.{ℕ, _+_, _%_}
 use mathlib.Core.Bool.{Bool, cond, _&&_}
 use lib.Dec.{eqb}
 use Rattle.bits.specs.Digits.{bit}
-use Rattle.bits.specs.Log.{ceilLog2}
-use Rattle.bits.specs.Words.{claimBits, wordWithBit, lowAgree, member}
+use Rattle.bits.specs.Log.{ceil-log2}
+use Rattle.bits.specs.Words.{claim-bits, word-with-bit, low-agree, member}
 use Rattle.entry.specs.declared.entry.Stage.{Stage}
 use Rattle.entry.specs.declared.entry.Stage.the-variants.{Idle, Waiting, Voting, Awaiting, Seeking, FinishVoting, FinishAwaiting, Decided}
 use Rattle.entry.specs.declared.entry.Station.{Station}
@@ -36,7 +36,7 @@ staged g t = moved g (t .cursor) (t .round) (t .word) (t .decision) t
 -- "a bit answer becomes bit k of d, then seeking"
 unfoldable pub bit-taken : View → Station
 bit-taken v =
-    moved Seeking (v .own .cursor) (v .own .round) (wordWithBit claimBits (v .own .round) (v .ballot .answer) (v .own .word)) (v .own .decision) (v .own)
+    moved Seeking (v .own .cursor) (v .own .round) (word-with-bit claim-bits (v .own .round) (v .ballot .answer) (v .own .word)) (v .own .decision) (v .own)
 
 -- "finish answer 1 decides d. Finish answer 0 adds 1 to k, then voting"
 unfoldable pub finish-taken : View → Station
@@ -47,10 +47,10 @@ finish-taken v =
 
 -- "seeking ends: rule 1 decides the claim of j if k + 1 = R, otherwise adds 1 to k and is voting; rule 2 is voting on ballot 2k+1"
 abbrev pub last-round : View → Bool
-last-round v = eqb (v .own .round + 1) (ceilLog2 (v .count))
+last-round v = eqb (v .own .round + 1) (ceil-log2 (v .count))
 
-unfoldable pub found : View → ℕ → Station
-found v j =
+unfoldable pub entry-after-seek : View → ℕ → Station
+entry-after-seek v j =
     cond (by-station (v .rule))
     (cond (last-round v)
     (moved Decided j (v .own .round) (v .own .word) (v .beside .claim) (v .own))
@@ -59,12 +59,12 @@ found v j =
 
 -- "If the claim of j is held, and the low k+1 bits of d equal those of j (rule 1) or of its claim (rule 2), seeking ends. If not, it stays seeking"
 abbrev pub seeking-ends : View → ℕ → Bool
-seeking-ends v j = member j (v .own .held) && lowAgree (v .own .round) (v .own .word) (spelled (v .rule) j (v .beside .claim))
+seeking-ends v j = member j (v .own .held) && low-agree (v .own .round) (v .own .word) (spelled (v .rule) j (v .beside .claim))
 
 unfoldable pub sought : View → ℕ → Station
 sought v j =
     cond (seeking-ends v j)
-    (found v j)
+    (entry-after-seek v j)
     (moved Seeking j (v .own .round) (v .own .word) (v .own .decision) (v .own))
 
 -- the entry of station s after it, at each stage

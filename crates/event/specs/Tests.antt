@@ -11,7 +11,7 @@ use Rattle.consensus.specs.Rules.{finish-ballot, as-bit}
 use Rattle.entry.specs.declared.entry.Stage.the-variants.{Waiting, Awaiting, FinishAwaiting}
 use Rattle.event.specs.declared.view.View.{View}
 use Rattle.entry.specs.Stages.{at, not-idle, is-decided}
-use Rattle.entry.specs.Entries.{ballotEntries, no-station, ballots, was-cast}
+use Rattle.entry.specs.Entries.{ballot-entries, no-station, ballots, was-cast}
 
 abbrev pub claim-tests : View → ℕ → List Test
 claim-tests v s =
@@ -37,7 +37,7 @@ must-wait v s =
 
 -- "taking answer 0 from ballot 63", the last one
 abbrev pub last-ballot : ℕ
-last-ballot = pred ballotEntries
+last-ballot = pred ballot-entries
 
 abbrev pub takes-last-no : View → Bool
 takes-last-no v = at FinishAwaiting (v .own .stage) && not (v .ballot .answer) && eqb (finish-ballot (v .own .round)) last-ballot

@@ -1,7 +1,7 @@
 // Where an event looks: its own station, the station beside it, and its ballot; and their places in the arrays.
 ghost use mathlib.Core.Path.{_≡_};
 ghost use Rattle.event.specs.Meant.{meant};
-ghost use Rattle.entry.specs.Entries.{stationEntries, ballotEntries};
+ghost use Rattle.entry.specs.Entries.{station-entries, ballot-entries};
 ghost use Rattle.event.specs.Places.{own-of, next-cursor, step-beside, beside-of, step-ballot, ballot-of, Place};
 use crate::event::Event;
 use entry::entry::BALLOT_ENTRIES;
@@ -99,7 +99,7 @@ pub fn ballot_of(rule: u8, t: Station, e: Event) -> usize
 
 // The place of station s in its array: past the array there is none, and the first stands for it.
 pub fn station_place(s: u8) -> usize
-    ensures { λ x. ⌜ Place stationEntries s x ⌝ }
+    ensures { λ x. ⌜ Place station-entries s x ⌝ }
 {
     if s < STATION_ENTRIES {
         return s as usize;
@@ -109,7 +109,7 @@ pub fn station_place(s: u8) -> usize
 
 // The place of ballot b.
 pub fn ballot_place(b: usize) -> usize
-    ensures { λ x. ⌜ Place ballotEntries b x ⌝ }
+    ensures { λ x. ⌜ Place ballot-entries b x ⌝ }
 {
     if b < BALLOT_ENTRIES {
         return b;

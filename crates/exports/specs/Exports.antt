@@ -7,17 +7,17 @@ use Rattle.field.specs.declared.table.Kind.the-variants as kind
 use Rattle.field.specs.declared.table.Known.{Known}
 use Rattle.field.specs.declared.table.Known.the-variants.{Row, Unknown}
 use Rattle.field.specs.declared.field.Field.{Field}
-use Rattle.field.specs.declared.field.Field.the-variants.{Opening, Event, Note}
+use Rattle.field.specs.declared.field.Field.the-variants.{Open, Play, Note}
 use Rattle.put.specs.Put.{put-number, put-count, put-buffer}
 
 -- The field of a kind: x and y are its one-byte numbers in the table's order, v is a claim. What the kind does not have says nothing.
 unfoldable pub asked : declared-kind.Kind → (x y v : ℕ) → Field
-asked kind.Opening x y v = Opening x y
-asked kind.Claim x y v = Event (Claim x v)
-asked kind.Deliver x y v = Event (Deliver x y)
-asked kind.Step x y v = Event (Step x)
-asked kind.Lose x y v = Event (Lose x)
-asked kind.Answer x y v = Event (Answer x y)
+asked kind.Open x y v = Open x y
+asked kind.Claim x y v = Play (Claim x v)
+asked kind.Deliver x y v = Play (Deliver x y)
+asked kind.Step x y v = Play (Step x)
+asked kind.Lose x y v = Play (Lose x)
+asked kind.Answer x y v = Play (Answer x y)
 asked kind.Note x y v = Note
 
 -- PUT's number and count in one: 65,536 times the number, and the count. A tag that is not in the table: READ's number for it, 21.

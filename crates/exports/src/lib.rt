@@ -71,20 +71,20 @@ fn field_asked(kind: Kind, x: u8, y: u8, v: Word) -> Field
     ensures { λ f. ⌜ f ≡ asked kind x y v ⌝ }
 {
     match kind {
-        Kind::Opening => Field::Opening { n: x, rule: y },
-        Kind::Claim => Field::Event {
+        Kind::Open => Field::Open { n: x, rule: y },
+        Kind::Claim => Field::Play {
             event: Event::Claim { s: x, v },
         },
-        Kind::Deliver => Field::Event {
+        Kind::Deliver => Field::Play {
             event: Event::Deliver { t: x, s: y },
         },
-        Kind::Step => Field::Event {
+        Kind::Step => Field::Play {
             event: Event::Step { s: x },
         },
-        Kind::Lose => Field::Event {
+        Kind::Lose => Field::Play {
             event: Event::Lose { s: x },
         },
-        Kind::Answer => Field::Event {
+        Kind::Answer => Field::Play {
             event: Event::Answer { b: x, a: y },
         },
         Kind::Note => Field::Note,

@@ -51,8 +51,8 @@ use Rattle.lent.proofs.Settled.{val, vals, Known, outcome-val, Known-ou
 use Rattle.lent.proofs.Contracts.{by-value, lent, value-says, lent-says, By-value, Lent, proved-over}
 
 -- a reference to a local, whose lifetime MIR erases
-abbrev lentTy : Ty
-lentTy = tyRef erased mut (pointee (S.the-row .written))
+abbrev lent-type : Ty
+lent-type = tyRef erased mut (pointee (S.the-row .written))
 
 -- ---- a settlement in a local, as what may be lent, and back
 module _ {M : Type 1} (𝓤 : URA M) (H : Heap 𝓤) (A : Atoms 𝓤) (W : Given 𝓤 H A) where
@@ -84,7 +84,7 @@ module _ (ws : List Width) (f : Name) (m : Settlement → Numbers ws → Outcome
     outlives = [];
     params = suc (after ws 0);
     locals = local O′.mir valueLocal ∷ local S′.mir valueLocal
-        ∷ locals ws (local S′.mir memorySlot ∷ local (tyInt w8) valueLocal ∷ local lentTy valueLocal ∷ local S′.mir valueLocal ∷ []);
+        ∷ locals ws (local S′.mir memorySlot ∷ local (tyInt w8) valueLocal ∷ local lent-type valueLocal ∷ local S′.mir valueLocal ∷ []);
     body = seq (assign (place (k 0) []) (rvOpd (copy (place 1 []))))
         (seq (assign (place (k 2) []) (addrOf (place (k 0) []))) (seq (call f (copy (place (k 2) []) ∷ operands ws 2) (place (k 1) []))
         (seq (assign (place (k 3) []) (rvOpd (copy (place (k 0) []))))
@@ -149,7 +149,7 @@ module _ (ws : List Width) (f : Name) (m : Settlement → Numbers ws → Outcome
         args-are = ap (λ (vs : List Val). vptr l 0 ∷ vs) (flat-spelt 1 κs ws (passed 1 κs ws ns) ∙ ap (machine ws) (values-passed 1 κs ws ns))
 
       abbrev E : ℕ → ℕ → ℕ → ℕ → Env 𝓤 H
-      E l lₙ lᵣ lₛ = (S′.mir, l) ∷ (tyInt w8, lₙ) ∷ (lentTy, lᵣ) ∷ (S′.mir, lₛ) ∷ []
+      E l lₙ lᵣ lₛ = (S′.mir, l) ∷ (tyInt w8, lₙ) ∷ (lent-type, lᵣ) ∷ (S′.mir, lₛ) ∷ []
 
       module _ (C : Calls 𝓤 H) (Λ : Loops 𝓤 H) (fm : FmC 𝓤 H (W .laws) C) (known : Triple 𝓤 (C f) Callee) where
         abbrev env-at : ℕ → ℕ → Env 𝓤 H → Env 𝓤 H

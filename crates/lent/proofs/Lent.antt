@@ -35,7 +35,7 @@ use Rattle.settlement.proofs.record.Outcome.Laws as O′
 use Rattle.lent.proofs.Numbers.{Numbers, Fit, rows, values, passed, spelt, fit, are-passed, values-passed, flat-spelt, make, machine, locals, operands, env, after, At, at-next, at-env, spot-after, alloc-numbers, pass-numbers, free-numbers, opds-swap, load-numbers, found}
 use Rattle.lent.proofs.Settled.{val, vals, Known, small, typed, have, returned, opened}
 use Rattle.lent.proofs.Contracts.{by-value, value-says, By-value, Lent, proved-over}
-use Rattle.lent.proofs.Stored.{lentTy, lent-env, End, ended, ends}
+use Rattle.lent.proofs.Stored.{lent-type, lent-env, End, ended, ends}
 use Rattle.lent.proofs.Entry as entry
 
 module _ (ws : List Width) (f : Name) (m : Settlement → Numbers ws → Outcome) where
@@ -49,7 +49,7 @@ module _ (ws : List Width) (f : Name) (m : Settlement → Numbers ws → Outcome
     lifetimes = 1;
     outlives = [];
     params = suc (after ws 0);
-    locals = local (tyInt w8) valueLocal ∷ local lentTy valueLocal ∷ locals ws (local O′.mir valueLocal ∷ local S′.mir valueLocal ∷ []);
+    locals = local (tyInt w8) valueLocal ∷ local lent-type valueLocal ∷ locals ws (local O′.mir valueLocal ∷ local S′.mir valueLocal ∷ []);
     body = seq (assign (place (k 1) []) (rvOpd (copy (place 1 (deref S′.mir ∷ [])))))
         (seq (call f (copy (place (k 1) []) ∷ operands ws 2) (place (k 0) [])) c);
   }
@@ -85,7 +85,7 @@ module _ (ws : List Width) (f : Name) (m : Settlement → Numbers ws → Outcome
     E lₖ lₕ = (O′.mir, lₖ) ∷ (S′.mir, lₕ) ∷ []
 
     numbers-at : (l₀ l₁ lₖ lₕ : ℕ) (ls : Numbers ws) → At 𝓤 H (lent-env l₀ l₁ (env ws ls (E lₖ lₕ))) 2 ws ls
-    numbers-at l₀ l₁ lₖ lₕ ls = at-next 𝓤 H (tyInt w8, l₀) _ 1 ws ls (at-next 𝓤 H (lentTy, l₁) _ 0 ws ls (at-env 𝓤 H ws ls (E lₖ lₕ)))
+    numbers-at l₀ l₁ lₖ lₕ ls = at-next 𝓤 H (tyInt w8, l₀) _ 1 ws ls (at-next 𝓤 H (lent-type, l₁) _ 0 ws ls (at-env 𝓤 H ws ls (E lₖ lₕ)))
 
     walk : {c : Code} (e : End (k 0) c) → entry.Right ws m e
         → (W : Given 𝓤 H A) (𝓣 : Tables 𝓤 H) → Triple 𝓤 (𝓣 .C f) Callee → entry.Walk ws m 𝓤 H A 𝓣 (function c)

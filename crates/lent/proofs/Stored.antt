@@ -33,12 +33,12 @@ use Rattle.lent.proofs.Numbers.{found}
 use Rattle.lent.proofs.Settled.{vals, Known, outcome-val, Known-outcome, small, its-settlement, joined, typed, typed-outcome, have}
 
 -- the reference's type in MIR
-abbrev pub lentTy : Ty
-lentTy = tyRef (named 0) mut (pointee (S.the-row .written))
+abbrev pub lent-type : Ty
+lent-type = tyRef (named 0) mut (pointee (S.the-row .written))
 
 -- the result's local, the reference's, and the others
 abbrev pub lent-env : ℕ → ℕ → List (Ty × ℕ) → List (Ty × ℕ)
-lent-env l₀ l₁ E = (tyInt w8, l₀) ∷ (lentTy, l₁) ∷ E
+lent-env l₀ l₁ E = (tyInt w8, l₀) ∷ (lent-type, l₁) ∷ E
 
 -- what may follow the call, with the outcome in _k: stores of its settlement, and then `_0 = ..; return`, where the answer is its number or 0
 pub data End (k : ℕ) : Code → Type 0 where
@@ -67,11 +67,11 @@ module _ {M : Type 1} {𝓤 : URA M} {H : Heap 𝓤} {A : Atoms 𝓤} {K : Type 
   -- the statements before `return`
   runs-on : K → {Q : Post 𝓤 H} {k : ℕ} {c : Code} (e : End k c) → spotOf 𝓤 H (lent-env l₀ l₁ E) k ≡ (O′.mir, lₖ, 0) → Is O.the-row x (v ∷ [])
       → (h : Settlement) → ended e h x .number < 2 ^ 8
-      → Step K W (‵ (fat fullShare O′.mir lₖ 0 (outcome-val x)) ∷ ‵ (fat fullShare lentTy l₁ 0 (vptr b o))
+      → Step K W (‵ (fat fullShare O′.mir lₖ 0 (outcome-val x)) ∷ ‵ (fat fullShare lent-type l₁ 0 (vptr b o))
       ∷ ‵ (cellAt fullShare (S.the-row .mir) (vals (ended e h x .settlement)) b o)
       ∷ ‵ (fat fullShare (tyInt w8) l₀ 0 (vint w8 (ended e h x .number))) ∷ Γ)
       (runs C Λ (lent-env l₀ l₁ E) return Q)
-      (‵ (fat fullShare O′.mir lₖ 0 (outcome-val x)) ∷ ‵ (fat fullShare lentTy l₁ 0 (vptr b o))
+      (‵ (fat fullShare O′.mir lₖ 0 (outcome-val x)) ∷ ‵ (fat fullShare lent-type l₁ 0 (vptr b o))
       ∷ ‵ (cellAt fullShare (S.the-row .mir) (vals h) b o) ∷ ‵ (froom (tyInt w8) l₀ 0) ∷ Γ)
       (runs C Λ (lent-env l₀ l₁ E) c Q)
   runs-on t (stores e) at is h fits = step (λ s.
@@ -90,11 +90,11 @@ module _ {M : Type 1} {𝓤 : URA M} {H : Heap 𝓤} {A : Atoms 𝓤} {K : Type 
     (κ : Lft) (q : Share) (γ : GName) (b o : ℕ) (l₀ l₁ lₖ : ℕ) (E : Env 𝓤 H) (h : Settlement) (x : Outcome) (v : Val) where
   pub ends : K → {k : ℕ} {c : Code} (e : End k c) → spotOf 𝓤 H (lent-env l₀ l₁ E) k ≡ (O′.mir, lₖ, 0) → Known h → Is O.the-row x (v ∷ [])
       → Step K W (‵ (fobs γ (S.the-row .coded .code (ended e h x .settlement))) ∷ ‵ (fbor κ (Body (mem S.the-row) b o γ)) ∷ ‵ (flft κ q)
-      ∷ ‵ (froom O′.mir lₖ 0) ∷ ‵ (froom lentTy l₁ 0) ∷ ‵ (froom (tyInt w8) l₀ 0) ∷ Γ)
+      ∷ ‵ (froom O′.mir lₖ 0) ∷ ‵ (froom lent-type l₁ 0) ∷ ‵ (froom (tyInt w8) l₀ 0) ∷ Γ)
       (frees (lent-env l₀ l₁ E) (prop (Kf (vint w8 (ended e h x .number)))))
       (‵ (cellAt fullShare (S.the-row .mir) (vals h) b o) ∷ ‵ (S.the-row .own h (vals h)) ∷ ‵ (fobor κ q (Body (mem S.the-row) b o γ))
       ∷ ‵ (fobs γ (S.the-row .coded .code h)) ∷ ‵ (fauth γ (S.the-row .coded .code h))
-      ∷ ‵ (froom O′.mir lₖ 0) ∷ ‵ (fat fullShare lentTy l₁ 0 (vptr b o)) ∷ ‵ (froom (tyInt w8) l₀ 0) ∷ Γ)
+      ∷ ‵ (froom O′.mir lₖ 0) ∷ ‵ (fat fullShare lent-type l₁ 0 (vptr b o)) ∷ ‵ (froom (tyInt w8) l₀ 0) ∷ Γ)
       (lands C Λ (lent-env l₀ l₁ E) (place k []) v c (atRet (lent-env l₀ l₁ E) Kf))
   ends t e at was is = step (λ s.
       let y : Outcome = ended e h x in

@@ -29,8 +29,8 @@ fn event(e: Event) {
 
 fn field(f: Field) {
     match f {
-        Field::Opening { n, rule } => tagged(0x01, n, rule, 0),
-        Field::Event { event: e } => event(e),
+        Field::Open { n, rule } => tagged(0x01, n, rule, 0),
+        Field::Play { event: e } => event(e),
         Field::Note => tagged(0x30, 0, 0, 0),
     }
 }

@@ -12,8 +12,7 @@ use lib.ListN.{length, drop, getD}
 use borrow.Author.Tests.{lt-ltb}
 use Rattle.basics.specs.Tests.{first-met}
 use Rattle.basics.proofs.Bools.{no-clash}
-use Rattle.consensus.specs.Events.{History, claim}
-use Rattle.consensus.specs.Events as consensus-events
+use Rattle.consensus.specs.Events.{History, claim, Opening}
 use Rattle.consensus.specs.Terms.{Put-in}
 use Rattle.consensus.specs.Told.{Listed}
 use Rattle.consensus.proofs.Beginnings.{itself}
@@ -31,7 +30,7 @@ use Rattle.settlement.specs.Fault.{fault}
 use Rattle.settlement.specs.Record.{entry}
 use Rattle.settlement.specs.Look.{standing, looked}
 use Rattle.settlement.specs.Link.{rule-number, record-after}
-use Rattle.field.specs.declared.field.Field.the-variants.{Event}
+use Rattle.field.specs.declared.field.Field.the-variants.{Play}
 use Rattle.field.specs.declared.read.Reading.the-variants.{Found}
 use Rattle.field.specs.Read.{found}
 use Rattle.log.specs.Run.{ran}
@@ -39,7 +38,7 @@ use Rattle.log.specs.Demand.{Bytes, Spells, nothing, event, note, Unopened, Pla
 use Rattle.log.proofs.Played.{log-demand}
 use Rattle.report.specs.Quoted.{bytes-of}
 use Rattle.report.specs.Decimal.{decimal}
-use Rattle.report.specs.Text.{named, first-line, stage-word, decision-shown, presence, shown-line, station-line, station-lines, text, too-long}
+use Rattle.report.specs.Text.{named, first-line, stage-word, decision-shown, presence, shown-line, station-line, station-lines, text, too-long-text}
 use Rattle.report.specs.Report.{limit, text-of, report}
 use Rattle.report.specs.Agreed.{lines-from, lines, Put-in-by-log, Says, Decided-lines}
 use Rattle.report.proofs.Apart.{each, other, no-space, no-letter, apart, line-first, stations-listed, first-words, first-plain, behind, station-words, in-parts, station-plain}
@@ -131,8 +130,8 @@ module _ (r : Settlement) (events taken status p : ℕ) (x : List ℕ) where
           (subst (λ (z : List ℕ). Listed (says-decided p x) (lines z)) (sym (append-nil rest)) k))
 
 -- `too long` says nothing of the kind
-not-too-long : (p : ℕ) (x : List ℕ) → Listed (says-decided p x) (lines too-long) → ⊥
-unfolding too-long lines-from each
+not-too-long : (p : ℕ) (x : List ℕ) → Listed (says-decided p x) (lines too-long-text) → ⊥
+unfolding too-long-text lines-from each
 not-too-long p x (inl e) = no-word p x (bytes-of "too") (bytes-of "long") refl refl e
 not-too-long p x (inr k) = k
 
@@ -155,7 +154,7 @@ record Claimed (log : List ℕ) (first s v to : ℕ) : Type 0 where
   pub place : ℕ
   pub spells : Spells log limit first before place
   pub taken : ℕ
-  pub field : found (drop place log) ≡ Found (Event (Claim s v)) taken
+  pub field : found (drop place log) ≡ Found (Play (Claim s v)) taken
   pub within : place + taken ≤ to
 
 later : {log : List ℕ} {first s v to : ℕ} (more : ℕ) → Claimed log first s v to → Claimed log first s v (to + more)
@@ -163,7 +162,7 @@ later more c =
     let w = c .within in
     record { before = c .before; place = c .place; spells = c .spells; taken = c .taken; field = c .field; within = omega arith }
 
-claimed : (o : consensus-events.Opening) (log : List ℕ) (first s v : ℕ) (h : History) (to : ℕ) → Spells log limit first h to → Put-in o s v h
+claimed : (o : Opening) (log : List ℕ) (first s v : ℕ) (h : History) (to : ℕ) → Spells log limit first h to → Put-in o s v h
     → Claimed log first s v to
 claimed o log first s v h to nothing x = absurd x
 claimed o log first s v h to (event {taken = t} sp b q) (inl x) = later t (claimed o log first s v _ _ sp x)
@@ -177,12 +176,12 @@ module _ (log : List ℕ) (x y : List ℕ) where
   abbrev Agrees : Type 0
   Agrees = (v : ℕ) × (k : ℕ) × Says v k x × Says v k y × Put-in-by-log log v
 
-  module _ (o : consensus-events.Opening) (h : History) (P : Played log limit (ran log limit) o h) where
+  module _ (o : Opening) (h : History) (P : Played log limit (ran log limit) o h) where
     abbrev r : Settlement
     r = record-after o h
 
     decided-there : {z : List ℕ} (d : Station-decided r z) → looked r (d .station) .decided ≡ true
-    decided-there d = ap (λ (w : Standing). w .decided) (looks r (d .station) (P .sound .no-fault) (d .known)) ∙ d .stage
+    decided-there d = ap (λ (w : Standing). w .decided) (looks r (d .station) (P .in-ranges .no-fault) (d .known)) ∙ d .stage
 
     says : {z : List ℕ} (d : Station-decided r z) → Says (looked r (d .station) .claim) (looked r (d .station) .votes) z
     unfolding decision-shown
@@ -234,7 +233,7 @@ unfolding report
 agree log bytes p q x y = go (ltb limit (length log))
   where
     by-demand : Listed (says-decided p x) (lines (run-text log (ran log limit .settlement))) → Listed (says-decided q y) (lines (run-text log (ran log limit .settlement)))
-        → Unopened log limit (ran log limit) ⊎ ((o : consensus-events.Opening) × (h : History) × Played log limit (ran log limit) o h) → Agrees log x y
+        → Unopened log limit (ran log limit) ⊎ ((o : Opening) × (h : History) × Played log limit (ran log limit) o h) → Agrees log x y
     by-demand a b (inl u) =
         let d = in-text blank _ _ _ p x (subst (λ (r : Settlement). Listed (says-decided p x) (lines (run-text log r))) (u .settlement) a) in
         let l = d .known in
@@ -244,8 +243,8 @@ agree log bytes p q x y = go (ltb limit (length log))
         (in-text (record-after o h) _ _ _ p x (subst (λ (r : Settlement). Listed (says-decided p x) (lines (run-text log r))) (P .settlement) a))
         (in-text (record-after o h) _ _ _ q y (subst (λ (r : Settlement). Listed (says-decided q y) (lines (run-text log r))) (P .settlement) b))
 
-    go : (b : Bool) → Listed (says-decided p x) (lines (cond b too-long (text-of (ran log limit))))
-        → Listed (says-decided q y) (lines (cond b too-long (text-of (ran log limit)))) → Agrees log x y
+    go : (b : Bool) → Listed (says-decided p x) (lines (cond b too-long-text (text-of (ran log limit))))
+        → Listed (says-decided q y) (lines (cond b too-long-text (text-of (ran log limit)))) → Agrees log x y
     go true a b = absurd (not-too-long p x a)
     go false a b = by-demand a b (log-demand .holds log limit bytes)
 

@@ -7,7 +7,7 @@ use native.Mathlib.Omega.{arith}
 use lib.Dec.{eqb, ltb, lit≤}
 use lib.ListN.{length}
 use borrow.Author.Tests.{lt-ltb, le-ltb, ltb-true, ltb-false, ne-eqb}
-use Rattle.bits.specs.Log.{ceilLog2, leastFrom}
+use Rattle.bits.specs.Log.{ceil-log2, least-from}
 use Rattle.entry.specs.declared.entry.Stage.{Stage}
 use Rattle.entry.specs.declared.entry.Stage.the-variants.{Idle, Waiting, Voting, Awaiting, Seeking, FinishVoting, FinishAwaiting, Decided}
 use Rattle.entry.specs.Entries.{ballots}
@@ -17,7 +17,7 @@ use Rattle.settlement.specs.Look.{looked}
 use Rattle.log.specs.Run.{ran}
 use Rattle.report.specs.Quoted.{bytes-of}
 use Rattle.report.specs.Decimal.{digit, digits, decimal}
-use Rattle.report.specs.Text.{named, first-line, stage-word, decision-shown, presence, shown-line, station-line, station-lines, text, too-long}
+use Rattle.report.specs.Text.{named, first-line, stage-word, decision-shown, presence, shown-line, station-line, station-lines, text, too-long-text}
 use Rattle.report.specs.Report.{text-of, report}
 use Rattle.report.specs.Laws.{line-feeds, Report-laws, Lines-shown}
 use Rattle.report.proofs.Decimal.{decimal-small, decimal-more, decimal-of}
@@ -114,7 +114,7 @@ unfolding report
 is-played log h = rw (le-ltb 65536 (length log) h)
 
 is-longer : (log : List ℕ) → 65536 < length log → report log ≡ bytes-of "too long\n"
-unfolding report too-long
+unfolding report too-long-text
 is-longer log h = rw (lt-ltb 65536 (length log) h)
 
 pub report-laws : Report-laws
@@ -133,7 +133,7 @@ largest-shown =
     more 4294967295 _ (lit≤ tt) (more 429496729 _ (lit≤ tt) d)
 
 pub lines-shown : Lines-shown
-unfolding first-line shown-line decision-shown presence decimal digits ceilLog2 leastFrom
+unfolding first-line shown-line decision-shown presence decimal digits ceil-log2 least-from
 lines-shown =
     record {
       blank = refl;

@@ -13,7 +13,7 @@ use Rattle.basics.proofs.Lists.{read-past}
 use Rattle.entry.specs.declared.entry.Stage.{Stage}
 use Rattle.entry.specs.declared.entry.Stage.the-variants.{Idle, Waiting, Voting, Awaiting, Seeking, FinishVoting, FinishAwaiting, Decided}
 use Rattle.entry.specs.declared.entry.Station.{Station}
-use Rattle.entry.specs.Entries.{stationEntries, blank-station}
+use Rattle.entry.specs.Entries.{station-entries, blank-station}
 use Rattle.event.specs.Places.{within}
 use Rattle.entry.specs.Stages.{is-decided}
 use Rattle.settlement.specs.declared.record.Settlement.{Settlement}
@@ -50,9 +50,9 @@ text-by-entries r events taken status =
     ap (λ (l : List ℕ). first-line (r .count) (r .rule) events taken status ++ l) (same-lines _ _ (r .count) (line-by-entry r))
 
 -- the entry at the place of s, or past the array a blank one, is the entry of s
-pub entry-at : (l : List Station) (s : ℕ) → length l ≡ stationEntries
-    → cond (ltb s stationEntries) (getD l (within stationEntries s) blank-station) blank-station ≡ getD l s blank-station
-entry-at l s e = by-bool (ltb s stationEntries) (λ p. rw p) (λ p. rw p (read-past l blank-station stationEntries s e (ltb-false s stationEntries p)))
+pub entry-at : (l : List Station) (s : ℕ) → length l ≡ station-entries
+    → cond (ltb s station-entries) (getD l (within station-entries s) blank-station) blank-station ≡ getD l s blank-station
+entry-at l s e = by-bool (ltb s station-entries) (λ p. rw p) (λ p. rw p (read-past l blank-station station-entries s e (ltb-false s station-entries p)))
 
 pub word-in-row : (g : Stage) → take (length (stage-word g)) (drop (8 * word-row g) words) ≡ stage-word g
 word-in-row Idle = refl

@@ -9,7 +9,7 @@ use lib.ListN.{drop}
 use Rattle.consensus.specs.Events.{History}
 use Rattle.consensus.specs.Told.{Listed}
 use Rattle.event.specs.declared.event.Event.the-variants.{Claim}
-use Rattle.field.specs.declared.field.Field.the-variants.{Opening, Event}
+use Rattle.field.specs.declared.field.Field.the-variants.{Open, Play}
 use Rattle.field.specs.declared.read.Reading.the-variants.{Found}
 use Rattle.field.specs.Read.{found}
 use Rattle.log.specs.Run.{ran}
@@ -32,13 +32,13 @@ pub record Put-in-by-log (log : List ℕ) (v : ℕ) : Type 0 where
   pub n : ℕ
   pub rule : ℕ
   pub first : ℕ
-  pub opens : found log ≡ Found (Opening n rule) first
+  pub opens : found log ≡ Found (Open n rule) first
   pub before : History
   pub place : ℕ
   pub spells : Spells log limit first before place
   pub station : ℕ
   pub taken : ℕ
-  pub field : found (drop place log) ≡ Found (Event (Claim station v)) taken
+  pub field : found (drop place log) ≡ Found (Play (Claim station v)) taken
   pub within : place + taken ≤ ran log limit .taken
 
 -- what stands behind the word `decided`: the claim v, k votes, live or lost

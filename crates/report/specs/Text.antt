@@ -63,8 +63,8 @@ unfoldable pub text : Settlement → (events taken status : ℕ) → List ℕ
 text r events taken status = first-line (r .count) (r .rule) events taken status ++ station-lines (station-line r) (r .count)
 
 -- "A longer input prints `too long` alone."
-unfoldable pub too-long : List ℕ
-too-long = bytes-of "too long\n"
+unfoldable pub too-long-text : List ℕ
+too-long-text = bytes-of "too long\n"
 
 -- ---- the same by entries: what the functions open to this crate alone ensure (a reader may skip it)
 

@@ -1,5 +1,5 @@
 // A log in, the text out.
-ghost use Rattle.report.specs.Text.{too-long};
+ghost use Rattle.report.specs.Text.{too-long-text};
 ghost use Rattle.report.specs.Report.{report};
 ghost use Rattle.report.specs.Written.{Printed};
 use crate::text::report_of;
@@ -10,7 +10,7 @@ use log::run::run;
 pub const LIMIT: usize = 65536;
 
 fn report_too_long(out: &mut [u8]) -> usize
-    ensures { λ x. ⌜ Printed too-long (now (out .entry)) (now (out .exit)) x ⌝ }
+    ensures { λ x. ⌜ Printed too-long-text (now (out .entry)) (now (out .exit)) x ⌝ }
 {
     let line: &[u8] = b"too long\n";
     if line.len() <= out.len() {

@@ -3,7 +3,7 @@ ghost use mathlib.Core.Path.{_≡_};
 ghost use mathlib.Core.Bool.{cond};
 ghost use mathlib.Core.List.{_++_};
 ghost use lib.Dec.{ltb};
-ghost use Rattle.entry.specs.Entries.{stationEntries, blank-station};
+ghost use Rattle.entry.specs.Entries.{station-entries, blank-station};
 ghost use Rattle.report.specs.Text.{first-line, station-lines, line-in, text};
 ghost use Rattle.basics.specs.Written.{Wrote};
 ghost use Rattle.report.specs.Written.{Printed};
@@ -18,7 +18,7 @@ use settlement::record::Settlement;
 
 // The entry of station s, where t stands at its place: past the array a blank one.
 fn entry_or_blank(s: u8, t: Station) -> Station
-    ensures { λ x. ⌜ x ≡ cond (ltb s stationEntries) t blank-station ⌝ }
+    ensures { λ x. ⌜ x ≡ cond (ltb s station-entries) t blank-station ⌝ }
 {
     if s < STATION_ENTRIES {
         t

@@ -10,7 +10,7 @@ use mathlib.Core.Bool.{Bool, true, false, cond, _&&_, Bool·beq}
 use mathlib.Core.List.{List, [], _∷_, _++_}
 use lib.Dec.{eqb, ltb}
 use Rattle.bits.specs.Examples.{every}
-use Rattle.consensus.specs.Events.{Event, claim, deliver, step, answer, History, start, _▷_, Rule, byStation, byClaim, Opening}
+use Rattle.consensus.specs.Events.{Event, claim, deliver, step, answer, History, start, _▷_, Rule, rule-1, rule-2, Opening}
 use Rattle.settlement.specs.declared.record.Standing.{Standing}
 use Rattle.settlement.specs.Events.{opened, played}
 use Rattle.settlement.specs.Look.{looked}
@@ -37,13 +37,13 @@ shows x decided claimed votes = eqb (x .number) 0 && Bool·beq (x .decided) deci
 abbrev pub counts : Replay → (events taken status : ℕ) → Bool
 counts x events taken status = eqb (x .events) events && eqb (x .taken) taken && eqb (x .status) status
 
-abbrev pub right : Case → Bool
-right (open-gives n rule k) = eqb (opened n rule .number) k
-right (event-gives o h e k) = all-accepted o h && eqb (played (record-after o h) e .number) k
-right (look-shows o h s d v k) = all-accepted o h && shows (looked (record-after o h) s) d v k
-right (run-gives log limit e t k) = counts (ran log limit) e t k
-right (prints log text) = same (report log) (bytes-of text)
-right (bytes-are log bytes) = same log bytes
+abbrev pub case-right : Case → Bool
+case-right (open-gives n rule k) = eqb (opened n rule .number) k
+case-right (event-gives o h e k) = all-accepted o h && eqb (played (record-after o h) e .number) k
+case-right (look-shows o h s d v k) = all-accepted o h && shows (looked (record-after o h) s) d v k
+case-right (run-gives log limit e t k) = counts (ran log limit) e t k
+case-right (prints log text) = same (report log) (bytes-of text)
+case-right (bytes-are log bytes) = same log bytes
 
 abbrev stations : ℕ → Rule → Opening
 stations n r = record { count = n; rule = r }
@@ -110,33 +110,33 @@ each-stage-by-claim =
 abbrev pub starred : List Case
 starred =
     -- A: one station by station decides its claim with its first step
-    look-shows (stations 1 byStation) (start ▷ claim 0 5 ▷ deliver 0 0 ▷ step 0) 0 true 5 0
+    look-shows (stations 1 rule-1) (start ▷ claim 0 5 ▷ deliver 0 0 ▷ step 0) 0 true 5 0
     -- B: one station by claim, claim 0, answers 0 then 1: six steps, two votes
-    ∷ look-shows (stations 1 byClaim) (start ▷ claim 0 0 ▷ deliver 0 0 ▷ step 0 ▷ step 0 ▷ answer 0 0 ▷ step 0 ▷ step 0 ▷ step 0 ▷ answer 1 1 ▷ step 0) 0 true 0 2
+    ∷ look-shows (stations 1 rule-2) (start ▷ claim 0 0 ▷ deliver 0 0 ▷ step 0 ▷ step 0 ▷ answer 0 0 ▷ step 0 ▷ step 0 ▷ step 0 ▷ answer 1 1 ▷ step 0) 0 true 0 2
     -- C: the finish votes are 0 from station 0 and 1 from station 1; finish 1, and both decide 1
-    ∷ event-gives (stations 2 byClaim) (one-and-three ▷ step 0) (answer 1 1) 12
-    ∷ event-gives (stations 2 byClaim) (one-and-three ▷ step 0) (answer 1 0) 0
-    ∷ event-gives (stations 2 byClaim) (one-and-three ▷ step 1) (answer 1 0) 12
-    ∷ event-gives (stations 2 byClaim) (one-and-three ▷ step 1) (answer 1 1) 0
-    ∷ look-shows (stations 2 byClaim) (one-and-three ▷ step 0 ▷ step 1 ▷ answer 1 1 ▷ step 0 ▷ step 1) 0 true 1 2
-    ∷ look-shows (stations 2 byClaim) (one-and-three ▷ step 0 ▷ step 1 ▷ answer 1 1 ▷ step 0 ▷ step 1) 1 true 1 2
+    ∷ event-gives (stations 2 rule-2) (one-and-three ▷ step 0) (answer 1 1) 12
+    ∷ event-gives (stations 2 rule-2) (one-and-three ▷ step 0) (answer 1 0) 0
+    ∷ event-gives (stations 2 rule-2) (one-and-three ▷ step 1) (answer 1 0) 12
+    ∷ event-gives (stations 2 rule-2) (one-and-three ▷ step 1) (answer 1 1) 0
+    ∷ look-shows (stations 2 rule-2) (one-and-three ▷ step 0 ▷ step 1 ▷ answer 1 1 ▷ step 0 ▷ step 1) 0 true 1 2
+    ∷ look-shows (stations 2 rule-2) (one-and-three ▷ step 0 ▷ step 1 ▷ answer 1 1 ▷ step 0 ▷ step 1) 1 true 1 2
     -- D: finish 0, then bit 1 is settled as 1; only finish 1 can follow, and both decide 3
-    ∷ event-gives (stations 2 byClaim) second-round (answer 3 0) 12
-    ∷ look-shows (stations 2 byClaim) (second-round ▷ answer 3 1 ▷ step 0 ▷ step 1) 0 true 3 4
-    ∷ look-shows (stations 2 byClaim) (second-round ▷ answer 3 1 ▷ step 0 ▷ step 1) 1 true 3 4
+    ∷ event-gives (stations 2 rule-2) second-round (answer 3 0) 12
+    ∷ look-shows (stations 2 rule-2) (second-round ▷ answer 3 1 ▷ step 0 ▷ step 1) 0 true 3 4
+    ∷ look-shows (stations 2 rule-2) (second-round ▷ answer 3 1 ▷ step 0 ▷ step 1) 1 true 3 4
     -- E
     ∷ open-gives 33 3 40
     ∷ open-gives 32 3 41
     ∷ open-gives 32 1 0
     -- F
-    ∷ event-gives (stations 32 byStation) start (answer 5 0) 9
-    ∷ event-gives (stations 32 byStation) start (answer 4 0) 12
-    ∷ event-gives (stations 32 byClaim) start (answer 63 0) 12
-    ∷ event-gives (stations 32 byClaim) start (answer 64 0) 9
+    ∷ event-gives (stations 32 rule-1) start (answer 5 0) 9
+    ∷ event-gives (stations 32 rule-1) start (answer 4 0) 12
+    ∷ event-gives (stations 32 rule-2) start (answer 63 0) 12
+    ∷ event-gives (stations 32 rule-2) start (answer 64 0) 9
     -- G
-    ∷ event-gives (stations 1 byClaim) only-zero (answer 0 1) 12
-    ∷ event-gives (stations 1 byClaim) only-zero (answer 0 2) 10
-    ∷ event-gives (stations 1 byClaim) (only-zero ▷ answer 0 0) (answer 0 0) 11
+    ∷ event-gives (stations 1 rule-2) only-zero (answer 0 1) 12
+    ∷ event-gives (stations 1 rule-2) only-zero (answer 0 2) 10
+    ∷ event-gives (stations 1 rule-2) (only-zero ▷ answer 0 0) (answer 0 0) 11
     -- bytes as they are written below
     ∷ bytes-are (hex "00010a 10ff") (0 ∷ 1 ∷ 10 ∷ 16 ∷ 255 ∷ [])
     -- H
@@ -213,4 +213,4 @@ starred =
     ∷ []
 
 abbrev pub Starred-right : Type 0
-Starred-right = every right starred ≡ true
+Starred-right = every case-right starred ≡ true

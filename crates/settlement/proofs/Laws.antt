@@ -11,7 +11,7 @@ use borrow.Author.Tests.{ltb-true, leb-true, eqb-true, eqb-false, not-true, lt-l
 use Rattle.basics.specs.Tests.{first-met}
 use Rattle.basics.proofs.Bools.{by-bool, no-clash, not-false→true, and-true}
 use Rattle.basics.proofs.Below.{any-found}
-use Rattle.bits.specs.Log.{ceilLog2}
+use Rattle.bits.specs.Log.{ceil-log2}
 use Rattle.consensus.specs.Events.{Event, claim, deliver, step, lose, answer}
 use Rattle.consensus.specs.Rules.{finish-ballot}
 use Rattle.entry.specs.declared.entry.Stage.{Stage}
@@ -41,7 +41,7 @@ or-true false b e = inr e
 
 -- which stages are in a round, on a finish ballot, past waiting
 module _ (n rule : ℕ) (t : Station) where
-  in-round-outside : (g : Stage) → t .stage ≡ g → in-round g ≡ true → rule ≡ 1 → ceilLog2 n ≤ t .round → Station-outside n rule t
+  in-round-outside : (g : Stage) → t .stage ≡ g → in-round g ≡ true → rule ≡ 1 → ceil-log2 n ≤ t .round → Station-outside n rule t
   in-round-outside Idle e h one k = absurd (true≢false (sym h))
   in-round-outside Waiting e h one k = absurd (true≢false (sym h))
   in-round-outside Voting e h one k = voting one e k

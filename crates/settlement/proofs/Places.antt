@@ -10,14 +10,14 @@ use borrow.Author.Tests.{lt-ltb, ltb-true}
 use Rattle.basics.specs.Tests.{refuse, first-met}
 use Rattle.basics.proofs.Bools.{by-bool, cond-ind, or-false, not-false→true}
 use Rattle.basics.proofs.Refusals.{refused-not, met}
-use Rattle.bits.specs.Words.{claimBits}
+use Rattle.bits.specs.Words.{claim-bits}
 use Rattle.bits.proofs.Log.{log-le}
 use Rattle.consensus.specs.Events.{Event, claim, deliver, step, lose, answer}
 use Rattle.entry.specs.declared.entry.Stage.{Stage}
 use Rattle.entry.specs.declared.entry.Stage.the-variants.{Voting, Awaiting, Seeking}
 use Rattle.event.specs.declared.view.View.{View}
 use Rattle.entry.specs.Stages.{at, in-round, on-finish}
-use Rattle.entry.specs.Entries.{stationEntries, ballotEntries, no-station, by-station, ballots}
+use Rattle.entry.specs.Entries.{station-entries, ballot-entries, no-station, by-station, ballots}
 use Rattle.event.specs.Places.{own-of, next-cursor, step-beside, beside-of, step-ballot, ballot-of, within}
 use Rattle.event.specs.Change.{number-on, own-after, ballot-after}
 use Rattle.settlement.specs.declared.record.Settlement.{Settlement}
@@ -54,10 +54,10 @@ first-gives v (answer b a) h = met _ 9 _ h
 
 -- ---- inside the arrays
 
-ballots-few : (n rule : ℕ) → n ≤ stationEntries → ballots n rule ≤ ballotEntries
+ballots-few : (n rule : ℕ) → n ≤ station-entries → ballots n rule ≤ ballot-entries
 ballots-few n rule few =
-    cond-ind (λ (x : ℕ). x ≤ ballotEntries) (eqb n 0) _ _ (λ e. omega arith)
-    (λ e. cond-ind (λ (x : ℕ). x ≤ ballotEntries) (by-station rule) _ _ (λ e. let few-rounds = log-le n 5 few in omega arith) (λ e. le-refl ballotEntries))
+    cond-ind (λ (x : ℕ). x ≤ ballot-entries) (eqb n 0) _ _ (λ e. omega arith)
+    (λ e. cond-ind (λ (x : ℕ). x ≤ ballot-entries) (by-station rule) _ _ (λ e. let few-rounds = log-le n 5 few in omega arith) (λ e. le-refl ballot-entries))
 
 next-below : (n j : ℕ) → 0 < n → next-cursor n j < n
 next-below n j some = cond-ind (λ (x : ℕ). x < n) (eqb n 0) _ _ (λ e. some) (λ e. mod-lt _ some)
@@ -65,12 +65,12 @@ next-below n j some = cond-ind (λ (x : ℕ). x < n) (eqb n 0) _ _ (λ e. some) 
 beside-below : (n j : ℕ) (g : Stage) → j < n → step-beside n j g < n
 beside-below n j g below = cond-ind (λ (x : ℕ). x < n) (at Seeking g) _ _ (λ e. next-below n j (omega arith)) (λ e. below)
 
-ballot-below : (rule k : ℕ) (g : Stage) → ((in-round g || on-finish g) ≡ true → k < claimBits) → step-ballot rule k g < ballotEntries
+ballot-below : (rule k : ℕ) (g : Stage) → ((in-round g || on-finish g) ≡ true → k < claim-bits) → step-ballot rule k g < ballot-entries
 ballot-below rule k g low =
-    cond-ind (λ (x : ℕ). x < ballotEntries) (on-finish g) _ _ (λ e. let l = low (either e) in omega arith)
+    cond-ind (λ (x : ℕ). x < ballot-entries) (on-finish g) _ _ (λ e. let l = low (either e) in omega arith)
     (λ e.
-    cond-ind (λ (x : ℕ). x < ballotEntries) (at Voting g || at Awaiting g) _ _
-    (λ h. let l = low (rw h) in cond-ind (λ (x : ℕ). x < ballotEntries) (by-station rule) _ _ (λ q. omega arith) (λ q. omega arith))
+    cond-ind (λ (x : ℕ). x < ballot-entries) (at Voting g || at Awaiting g) _ _
+    (λ h. let l = low (rw h) in cond-ind (λ (x : ℕ). x < ballot-entries) (by-station rule) _ _ (λ q. omega arith) (λ q. omega arith))
     (λ h. omega arith))
   where
     or-right : (a b : Bool) → b ≡ true → (a || b) ≡ true
@@ -85,12 +85,12 @@ station-below n s h = ltb-true s n (not-false→true _ h)
 
 -- the places that the event looks at lie inside the arrays
 record Inside (r : Settlement) (e : Event) : Type 0 where
-  pub own : own-of e < stationEntries
-  pub beside : beside-in r e < stationEntries
-  pub ballot : ballot-in r e < ballotEntries
+  pub own : own-of e < station-entries
+  pub beside : beside-in r e < station-entries
+  pub ballot : ballot-in r e < ballot-entries
 
 module _ (r : Settlement) (passes : fault r ≡ false) where
-  station-inside : (s : ℕ) → no-station (r .count) s ≡ false → s < stationEntries
+  station-inside : (s : ℕ) → no-station (r .count) s ≡ false → s < station-entries
   station-inside s h = lt-of-lt-of-le (station-below (r .count) s h) (few-stations r passes)
 
   inside : (e : Event) → outside (r .count) (r .rule) e ≡ false → Inside r e
@@ -119,20 +119,20 @@ within-inside : (most i : ℕ) → i < most → within most i ≡ i
 within-inside most i h = rw (lt-ltb i most h)
 
 -- a LOOK that is not refused is of a station inside the array
-pub look-place : (r : Settlement) (s : ℕ) → first-met (look-tests r s) ≡ 0 → within stationEntries s ≡ s
+pub look-place : (r : Settlement) (s : ℕ) → first-met (look-tests r s) ≡ 0 → within station-entries s ≡ s
 unfolding first-met
 look-place r s h =
     let passed = refused-not (fault r) 42 (refuse (no-station (r .count) s) 1 0) refl h in
     within-inside _ _ (station-inside r (passed .0) s (refused-not _ 1 0 refl (passed .1) .0))
 
 abbrev pub own-place : Event → ℕ
-own-place e = within stationEntries (own-of e)
+own-place e = within station-entries (own-of e)
 
 abbrev pub beside-place : Settlement → Event → ℕ
-beside-place r e = within stationEntries (beside-of (r .count) (entry r (own-place e)) e)
+beside-place r e = within station-entries (beside-of (r .count) (entry r (own-place e)) e)
 
 abbrev pub ballot-place : Settlement → Event → ℕ
-ballot-place r e = within ballotEntries (ballot-of (r .rule) (entry r (own-place e)) e)
+ballot-place r e = within ballot-entries (ballot-of (r .rule) (entry r (own-place e)) e)
 
 abbrev pub seen : Settlement → Event → View
 seen r e =

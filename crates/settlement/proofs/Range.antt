@@ -6,8 +6,8 @@ use mathlib.Core.Path.{_≡_, refl}
 use mathlib.Core.Bool.{Bool, true, false, not, _&&_, _||_}
 use lib.Dec.{eqb, ltb, leb}
 use borrow.Author.Tests.{ltb-false, leb-false}
-use Rattle.bits.specs.Log.{ceilLog2}
-use Rattle.bits.specs.Words.{claimBits}
+use Rattle.bits.specs.Log.{ceil-log2}
+use Rattle.bits.specs.Words.{claim-bits}
 use Rattle.bits.proofs.Log.{log-le}
 use Rattle.basics.specs.Below.{any-below}
 use Rattle.basics.proofs.Bools.{by-bool, no-clash, not-false→true, or-false}
@@ -15,7 +15,7 @@ use Rattle.basics.proofs.Below.{any-none}
 use Rattle.entry.specs.declared.entry.Stage.{Stage}
 use Rattle.entry.specs.declared.entry.Station.{Station}
 use Rattle.settlement.specs.declared.record.Settlement.{Settlement}
-use Rattle.entry.specs.Entries.{stationEntries, by-station}
+use Rattle.entry.specs.Entries.{station-entries, by-station}
 use Rattle.settlement.specs.Record.{entry}
 use Rattle.entry.specs.Stages.{in-round, on-finish, past-waiting}
 use Rattle.settlement.specs.Fault.{station-fault, fault-at, fault}
@@ -40,62 +40,62 @@ acting-past : (g : Stage) → (in-round g || on-finish g) ≡ true → past-wait
 acting-past g h = rw h
 
 -- the clauses of the record test, each unmet
-pub record Sound (r : Settlement) : Type 0 where
-  pub few : ltb stationEntries (r .count) ≡ false
+pub record Clauses-unmet (r : Settlement) : Type 0 where
+  pub few : ltb station-entries (r .count) ≡ false
   pub rule : not (eqb (r .rule) 1 || eqb (r .rule) 2) ≡ false
   pub stations : any-below (r .count) (fault-at r) ≡ false
 
-pub record Sound-station (n rule : ℕ) (t : Station) : Type 0 where
+pub record Station-clauses-unmet (n rule : ℕ) (t : Station) : Type 0 where
   pub cursor : leb n (t .cursor) ≡ false
-  pub round : (eqb rule 1 && in-round (t .stage) && leb (ceilLog2 n) (t .round)) ≡ false
+  pub round : (eqb rule 1 && in-round (t .stage) && leb (ceil-log2 n) (t .round)) ≡ false
   pub finish : (eqb rule 1 && on-finish (t .stage)) ≡ false
-  pub late : (eqb rule 2 && past-waiting (t .stage) && leb claimBits (t .round)) ≡ false
+  pub late : (eqb rule 2 && past-waiting (t .stage) && leb claim-bits (t .round)) ≡ false
 
-pub sound : (r : Settlement) → fault r ≡ false → Sound r
+pub clauses-unmet : (r : Settlement) → fault r ≡ false → Clauses-unmet r
 unfolding fault
-sound r h =
+clauses-unmet r h =
     let none =
-    none-of-three (ltb stationEntries (r .count)) (not (eqb (r .rule) 1 || eqb (r .rule) 2)) (any-below (r .count) (fault-at r)) h in
+    none-of-three (ltb station-entries (r .count)) (not (eqb (r .rule) 1 || eqb (r .rule) 2)) (any-below (r .count) (fault-at r)) h in
     record { few = none .0; rule = none .1; stations = none .2 }
 
-pub sound-station : (n rule : ℕ) (t : Station) → station-fault n rule t ≡ false → Sound-station n rule t
+pub station-clauses-unmet : (n rule : ℕ) (t : Station) → station-fault n rule t ≡ false → Station-clauses-unmet n rule t
 unfolding station-fault
-sound-station n rule t h =
+station-clauses-unmet n rule t h =
     let none =
-    none-of-four (leb n (t .cursor)) (eqb rule 1 && in-round (t .stage) && leb (ceilLog2 n) (t .round)) (eqb rule 1 && on-finish (t .stage))
-    (eqb rule 2 && past-waiting (t .stage) && leb claimBits (t .round)) h in
+    none-of-four (leb n (t .cursor)) (eqb rule 1 && in-round (t .stage) && leb (ceil-log2 n) (t .round)) (eqb rule 1 && on-finish (t .stage))
+    (eqb rule 2 && past-waiting (t .stage) && leb claim-bits (t .round)) h in
     record { cursor = none .0; round = none .1; finish = none .2; late = none .3 }
 
 module _ (r : Settlement) (passes : fault r ≡ false) where
-  pub few-stations : r .count ≤ stationEntries
-  few-stations = ltb-false _ _ (sound r passes .few)
+  pub few-stations : r .count ≤ station-entries
+  few-stations = ltb-false _ _ (clauses-unmet r passes .few)
 
   pub some-rule : (eqb (r .rule) 1 || eqb (r .rule) 2) ≡ true
-  some-rule = not-false→true _ (sound r passes .rule)
+  some-rule = not-false→true _ (clauses-unmet r passes .rule)
 
   module _ (s : ℕ) (below : s < r .count) where
-    clauses : Sound-station (r .count) (r .rule) (entry r s)
-    clauses = sound-station (r .count) (r .rule) (entry r s) (any-none (r .count) (fault-at r) (sound r passes .stations) s below)
+    clauses : Station-clauses-unmet (r .count) (r .rule) (entry r s)
+    clauses = station-clauses-unmet (r .count) (r .rule) (entry r s) (any-none (r .count) (fault-at r) (clauses-unmet r passes .stations) s below)
 
     pub cursor-below : entry r s .cursor < r .count
     cursor-below = leb-false _ _ (clauses .cursor)
 
-    pub round-by-station : by-station (r .rule) ≡ true → in-round (entry r s .stage) ≡ true → entry r s .round < ceilLog2 (r .count)
+    pub round-by-station : by-station (r .rule) ≡ true → in-round (entry r s .stage) ≡ true → entry r s .round < ceil-log2 (r .count)
     round-by-station rule stage = leb-false _ _ (unless (by-station (r .rule) && in-round (entry r s .stage)) _ (clauses .round) (rw (rule, stage)))
 
     pub no-finish-by-station : by-station (r .rule) ≡ true → on-finish (entry r s .stage) ≡ false
     no-finish-by-station rule = unless _ _ (clauses .finish) rule
 
-    pub round-by-claim : by-station (r .rule) ≡ false → past-waiting (entry r s .stage) ≡ true → entry r s .round < claimBits
+    pub round-by-claim : by-station (r .rule) ≡ false → past-waiting (entry r s .stage) ≡ true → entry r s .round < claim-bits
     round-by-claim rule stage =
         leb-false _ _
         (unless (eqb (r .rule) 2 && past-waiting (entry r s .stage)) _ (clauses .late) (rw (other _ _ some-rule rule, stage)))
 
-    pub round-below : (in-round (entry r s .stage) || on-finish (entry r s .stage)) ≡ true → entry r s .round < claimBits
+    pub round-below : (in-round (entry r s .stage) || on-finish (entry r s .stage)) ≡ true → entry r s .round < claim-bits
     round-below acting =
         by-bool (by-station (r .rule))
         (λ rule.
-        let low : entry r s .round < ceilLog2 (r .count) =
+        let low : entry r s .round < ceil-log2 (r .count) =
         round-by-station rule (by-bool (in-round (entry r s .stage)) (λ e. e) (λ e. no-clash _ (other _ _ acting e) (no-finish-by-station rule))) in
         lt-of-lt-of-le low (omega (arith, log-le (r .count) 5 few-stations)))
         (λ rule. round-by-claim rule (acting-past (entry r s .stage) acting))

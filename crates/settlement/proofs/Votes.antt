@@ -6,8 +6,8 @@ use mathlib.Core.Path.{_≡_, refl}
 use mathlib.Core.Bool.{true, false, _||_}
 use mathlib.Core.List.{_∷_, []}
 use borrow.Author.Tests.{ltb-true}
-use Rattle.bits.specs.Log.{ceilLog2}
-use Rattle.bits.specs.Words.{claimBits}
+use Rattle.bits.specs.Log.{ceil-log2}
+use Rattle.bits.specs.Words.{claim-bits}
 use Rattle.bits.proofs.Log.{log-le}
 use Rattle.basics.proofs.Bools.{cond-ind, not-false→true}
 use Rattle.basics.proofs.Refusals.{refused-not}
@@ -27,10 +27,10 @@ pub bits-twice : (rule k : ℕ) → bit-ballot rule k ≤ 2 * k
 bits-twice rule k = cond-ind (λ (n : ℕ). n ≤ 2 * k) (by-station rule) _ _ (λ b. omega arith) (λ b. le-refl _)
 
 module _ (r : Settlement) (passes : fault r ≡ false) (s : ℕ) (below : s < r .count) where
-  few-rounds : ceilLog2 (r .count) < 256
+  few-rounds : ceil-log2 (r .count) < 256
   few-rounds = omega (arith, log-le (r .count) 5 (few-stations r passes))
 
-  acting : {g : Stage} → entry r s .stage ≡ g → (in-round g || on-finish g) ≡ true → entry r s .round < claimBits
+  acting : {g : Stage} → entry r s .stage ≡ g → (in-round g || on-finish g) ≡ true → entry r s .round < claim-bits
   acting e h = round-below r passes s below (rw e h)
 
   few : (g : Stage) → entry r s .stage ≡ g → votes (r .count) (r .rule) (entry r s) g < 256
@@ -43,7 +43,7 @@ module _ (r : Settlement) (passes : fault r ≡ false) (s : ℕ) (below : s < r 
   few FinishVoting e = let k = acting e refl in omega arith
   few FinishAwaiting e = let k = acting e refl in omega arith
   few Decided e =
-      cond-ind (λ (n : ℕ). n < 256) (by-station (r .rule)) (ceilLog2 (r .count)) (finish-ballot (entry r s .round) + 1) (λ b. few-rounds)
+      cond-ind (λ (n : ℕ). n < 256) (by-station (r .rule)) (ceil-log2 (r .count)) (finish-ballot (entry r s .round) + 1) (λ b. few-rounds)
       (λ b. let k = round-by-claim r passes s below b (rw e) in omega arith)
 
 pub few-votes : (r : Settlement) (s : ℕ) → first-met (look-tests r s) ≡ 0 → votes (r .count) (r .rule) (entry r s) (entry r s .stage) < 256

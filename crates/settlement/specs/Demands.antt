@@ -34,7 +34,7 @@ pub record Answers-told (o : Opening) (g : History) (r : Settlement) : Type 0 wh
 
 module _ (o : Opening) (h : History) where
   -- "No record reached from OPEN meets 42."
-  pub record Sound : Type 0 where
+  pub record In-ranges : Type 0 where
     pub no-fault : fault (record-after o h) ≡ false
     pub no-42 : (e : Event) → played (record-after o h) e .number ≡ 42 → ⊥
 
@@ -76,6 +76,6 @@ pub record Demands : Type 0 where
   -- on the blank settlement every event and LOOK are refused, and not with 42
   pub blank-refuses : (e : Event) → played blank e ≡ record { number = blank-number e; settlement = blank }
   pub blank-shows : (s : ℕ) → looked blank s ≡ turned-away 1
-  pub sound : (o : Opening) → Openable o → (h : History) → Claims-fit h → Sound o h
+  pub in-ranges : (o : Opening) → Openable o → (h : History) → Claims-fit h → In-ranges o h
   pub demand2 : (o : Opening) → Openable o → (h : History) → Claims-fit h → Demand2-of-records o h
   pub demand3 : (o : Opening) → Openable o → (h : History) → Claims-fit h → Demand3-of-records o h

@@ -34,12 +34,12 @@ same-outcome o k n rule = eqb (o .number) k && eqb (o .settlement .count) n && e
 abbrev same-standing : Standing → ℕ → Bool → ℕ → ℕ → Bool
 same-standing x k d v m = eqb (x .number) k && Bool·beq (x .decided) d && eqb (x .claim) v && eqb (x .votes) m
 
-abbrev pub right : Row → Bool
-right (opens n rule k n′ rule′) = same-outcome (opened n rule) k n′ rule′
-right (gives r e k) = eqb (played r e .number) k
-right (leaves r e s t) = same-station (entry (played r e .settlement) s) t
-right (leaves-ballot r e b t) = same-ballot (ballot (played r e .settlement) b) t
-right (shows r s k d v m) = same-standing (looked r s) k d v m
+abbrev pub edge-right : Row → Bool
+edge-right (opens n rule k n′ rule′) = same-outcome (opened n rule) k n′ rule′
+edge-right (gives r e k) = eqb (played r e .number) k
+edge-right (leaves r e s t) = same-station (entry (played r e .settlement) s) t
+edge-right (leaves-ballot r e b t) = same-ballot (ballot (played r e .settlement) b) t
+edge-right (shows r s k d v m) = same-standing (looked r s) k d v m
 
 -- ---- made-up records
 
@@ -255,8 +255,8 @@ wrong =
     ∷ []
 
 abbrev pub not-right : Row → Bool
-not-right row = not (right row)
+not-right row = not (edge-right row)
 
 pub record Edges-right : Type 0 where
-  pub rows : every right edges ≡ true
+  pub rows : every edge-right edges ≡ true
   pub told : every not-right wrong ≡ true

@@ -7,7 +7,7 @@ use lib.Dec.{eqb, ltb}
 use lib.ListN.{replicate}
 use Rattle.basics.specs.Tests.{Test, when, first-met}
 use Rattle.consensus.specs.Events.{Event}
-use Rattle.entry.specs.Entries.{stationEntries, ballotEntries, blank-station, blank-ballot}
+use Rattle.entry.specs.Entries.{station-entries, ballot-entries, blank-station, blank-ballot}
 use Rattle.event.specs.Places.{own-of}
 use Rattle.event.specs.Tests.{tests-on}
 use Rattle.event.specs.Change.{own-after, ballot-after}
@@ -24,7 +24,7 @@ outcome k next given = record { number = k; settlement = cond (eqb k 0) next giv
 
 abbrev pub open-tests : ℕ → ℕ → List Test
 open-tests n rule =
-    when (eqb n 0 || ltb stationEntries n) 40
+    when (eqb n 0 || ltb station-entries n) 40
     ∷ when (not (eqb rule 1 || eqb rule 2)) 41
     ∷ []
 
@@ -34,8 +34,8 @@ fresh n rule =
     record {
       count = n;
       rule = rule;
-      stations = replicate stationEntries blank-station;
-      ballots = replicate ballotEntries blank-ballot;
+      stations = replicate station-entries blank-station;
+      ballots = replicate ballot-entries blank-ballot;
     }
 
 -- "the blank settlement: no stations, rule 1, no ballots"

@@ -5,7 +5,7 @@ use mathlib.Core.Path.{_≡_}
 use mathlib.Core.Logic.{_⊎_, _↔_}
 use mathlib.Core.Bool.{true, false}
 use lib.ListN.{length, getD, replicate}
-use Rattle.bits.specs.Log.{ceilLog2}
+use Rattle.bits.specs.Log.{ceil-log2}
 use Rattle.consensus.specs.Events.{Event, claim, deliver, step, lose, answer}
 use Rattle.entry.specs.declared.entry.Stage.the-variants.{Idle, Waiting, Voting, Awaiting, Seeking, FinishVoting, FinishAwaiting}
 use Rattle.entry.specs.declared.entry.Station.{Station}
@@ -24,9 +24,9 @@ pub data Station-outside (n rule : ℕ) (t : Station) : Type 0 where
   -- "a station below n whose cursor is n or more", under either rule
   cursor : n ≤ t .cursor → Station-outside n rule t
   -- "a voting, awaiting or seeking station whose round is R or more under rule 1"
-  voting : rule ≡ 1 → t .stage ≡ Voting → ceilLog2 n ≤ t .round → Station-outside n rule t
-  awaiting : rule ≡ 1 → t .stage ≡ Awaiting → ceilLog2 n ≤ t .round → Station-outside n rule t
-  seeking : rule ≡ 1 → t .stage ≡ Seeking → ceilLog2 n ≤ t .round → Station-outside n rule t
+  voting : rule ≡ 1 → t .stage ≡ Voting → ceil-log2 n ≤ t .round → Station-outside n rule t
+  awaiting : rule ≡ 1 → t .stage ≡ Awaiting → ceil-log2 n ≤ t .round → Station-outside n rule t
+  seeking : rule ≡ 1 → t .stage ≡ Seeking → ceil-log2 n ≤ t .round → Station-outside n rule t
   -- "a station voting or awaiting on a finish ballot under rule 1"
   finish-voting : rule ≡ 1 → t .stage ≡ FinishVoting → Station-outside n rule t
   finish-awaiting : rule ≡ 1 → t .stage ≡ FinishAwaiting → Station-outside n rule t

@@ -6,7 +6,7 @@ use mathlib.Core.Bool.{Bool, true, cond, _&&_}
 use mathlib.Core.Option.{Option, none, some}
 use lib.Dec.{eqb}
 use Rattle.bits.specs.Words.{member}
-use Rattle.consensus.specs.Events.{History, start, _▷_, Rule, byStation, byClaim, Opening}
+use Rattle.consensus.specs.Events.{History, start, _▷_, Rule, rule-1, rule-2, Opening}
 use Rattle.consensus.specs.State as play
 use Rattle.consensus.specs.Rules.{is-bit}
 use Rattle.basics.specs.Below.{any-below}
@@ -21,8 +21,8 @@ use Rattle.settlement.specs.Events.{opened, played}
 
 -- rule 1 is by station, rule 2 by claim
 abbrev pub rule-number : Rule → ℕ
-rule-number byStation = 1
-rule-number byClaim = 2
+rule-number rule-1 = 1
+rule-number rule-2 = 2
 
 -- the record that OPEN and then a list of events lead to, each event on what the last one answered
 unfoldable pub record-after : Opening → History → Settlement

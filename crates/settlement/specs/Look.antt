@@ -4,7 +4,7 @@ use mathlib.Core.Bool.{false, cond}
 use mathlib.Core.List.{List, [], _∷_}
 use lib.Dec.{eqb}
 use Rattle.basics.specs.Tests.{Test, when, first-met}
-use Rattle.bits.specs.Log.{ceilLog2}
+use Rattle.bits.specs.Log.{ceil-log2}
 use Rattle.consensus.specs.Rules.{finish-ballot}
 use Rattle.entry.specs.declared.entry.Stage.{Stage}
 use Rattle.entry.specs.declared.entry.Stage.the-variants.{Idle, Waiting, Voting, Awaiting, Seeking, FinishVoting, FinishAwaiting, Decided}
@@ -34,7 +34,7 @@ votes n rule t Awaiting = bit-ballot rule (t .round) + 1
 votes n rule t Seeking = bit-ballot rule (t .round) + 1
 votes n rule t FinishVoting = finish-ballot (t .round)
 votes n rule t FinishAwaiting = finish-ballot (t .round) + 1
-votes n rule t Decided = cond (by-station rule) (ceilLog2 n) (finish-ballot (t .round) + 1)
+votes n rule t Decided = cond (by-station rule) (ceil-log2 n) (finish-ballot (t .round) + 1)
 
 -- "the claim (0 if undecided)"
 abbrev pub shown-claim : Station → ℕ

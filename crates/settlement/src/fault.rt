@@ -2,7 +2,7 @@
 ghost use mathlib.Core.Path.{_≡_};
 ghost use Prim.Native.Nat.{_≤_};
 ghost use Rattle.basics.specs.Below.{any-below};
-ghost use Rattle.entry.specs.Entries.{stationEntries};
+ghost use Rattle.entry.specs.Entries.{station-entries};
 ghost use Rattle.settlement.specs.Fault.{station-fault, fault-at, fault};
 use crate::record::Settlement;
 use bits::logarithm::ceil_log2;
@@ -26,7 +26,7 @@ pub fn station_faulty(n: u8, rule: u8, t: Station) -> bool
 
 // Whether a station below n has a fault.
 fn some_station_faulty(r: Settlement) -> bool
-    requires { ⌜ r .count ≤ stationEntries ⌝ }
+    requires { ⌜ r .count ≤ station-entries ⌝ }
     ensures { λ x. ⌜ x ≡ any-below (r .count) (fault-at r) ⌝ }
 {
     let mut found = false;

@@ -11,9 +11,9 @@ use native.Mathlib.Numerals.{add-one}
 use lib.Dec.{eqb, ltb}
 use lib.ListN.{length, getD, replicate, length-replicate}
 use borrow.Author.Tests.{eqb-true, eqb-false, ne-eqb, le-ltb, lt-ltb, ltb-true, ltb-false}
-use Rattle.bits.specs.Log.{ceilLog2}
+use Rattle.bits.specs.Log.{ceil-log2}
 use Rattle.bits.proofs.Masks.{member-none}
-use Rattle.consensus.specs.Events.{Event, claim, deliver, step, lose, answer, History, start, _▷_, Rule, byStation, byClaim, Opening, Openable}
+use Rattle.consensus.specs.Events.{Event, claim, deliver, step, lose, answer, History, start, _▷_, Rule, rule-1, rule-2, Opening, Openable}
 use Rattle.consensus.specs.State as play
 use Rattle.consensus.specs.Rules as rules
 use Rattle.basics.specs.Tests.{refuse, first-met}
@@ -36,7 +36,7 @@ use Rattle.entry.specs.declared.entry.Station.{Station}
 use Rattle.settlement.specs.declared.record.Settlement.{Settlement}
 use Rattle.settlement.specs.declared.record.Standing.{Standing}
 use Rattle.consensus.specs.Rules.{finish-ballot}
-use Rattle.entry.specs.Entries.{bit-ballot, stationEntries, ballotEntries, blank-station, blank-ballot, no-station, was-cast}
+use Rattle.entry.specs.Entries.{bit-ballot, station-entries, ballot-entries, blank-station, blank-ballot, no-station, was-cast}
 use Rattle.settlement.specs.Record.{entry}
 use Rattle.entry.specs.Stages.{is-decided}
 use Rattle.settlement.specs.Fault.{fault}
@@ -44,7 +44,7 @@ use Rattle.settlement.specs.Events.{open-tests, number, outcome, fresh, 
 use Rattle.settlement.specs.Look.{look-tests}
 use Rattle.settlement.specs.Look.{votes, standing, turned-away, looked}
 use Rattle.settlement.specs.Link.{rule-number, record-after, stage-of, answer-in, Shows-play}
-use Rattle.settlement.specs.Demands.{Answers-told, Sound, Demand2-of-records, blank-number, Demands}
+use Rattle.settlement.specs.Demands.{Answers-told, In-ranges, Demand2-of-records, blank-number, Demands}
 use Rattle.settlement.proofs.Link.Linked.{Entry-shows, Linked, linked-shows}
 use Rattle.settlement.proofs.Link.Faultless.{rule-known, faultless}
 use Rattle.basics.proofs.Below.{none-below}
@@ -57,7 +57,7 @@ open-accepted : (o : Opening) → Openable o → first-met (open-tests (o .count
 unfolding first-met
 open-accepted o a =
     let low : eqb (o .count) 0 ≡ false = ne-eqb (o .count) 0 (λ e. let l = a .some-station in omega arith) in
-    ap₂ (λ (x y : Bool). refuse (x || y) 40 (refuse (not (eqb (rule-number (o .rule)) 1 || eqb (rule-number (o .rule)) 2)) 41 0)) low (le-ltb stationEntries (o .count) (a .not-too-many))
+    ap₂ (λ (x y : Bool). refuse (x || y) 40 (refuse (not (eqb (rule-number (o .rule)) 1 || eqb (rule-number (o .rule)) 2)) 41 0)) low (le-ltb station-entries (o .count) (a .not-too-many))
     ∙ ap (λ (x : Bool). refuse x 41 0) (rule-known (o .rule))
 
 opened-fresh : (o : Opening) → Openable o
@@ -74,14 +74,14 @@ fresh-linked : (o : Opening) → Openable o → Linked o (fresh (o .count) (rule
 fresh-linked o a = record {
   count = refl;
   rule = refl;
-  stations = length-replicate stationEntries blank-station;
-  ballots = length-replicate ballotEntries blank-ballot;
+  stations = length-replicate station-entries blank-station;
+  ballots = length-replicate ballot-entries blank-ballot;
   entries = λ s b.
-      subst (λ (t : Station). Entry-shows (o .count) t play.untouched) (sym (all-blank stationEntries s blank-station))
+      subst (λ (t : Station). Entry-shows (o .count) t play.untouched) (sym (all-blank station-entries s blank-station))
       (record { stage = refl; claim = refl; holds = λ i. member-none i; lost = refl; cursor = a .some-station; early = (refl, refl) });
-  answer = λ b. ap answer-in (all-blank ballotEntries b blank-ballot);
+  answer = λ b. ap answer-in (all-blank ballot-entries b blank-ballot);
   cast = λ b y.
-      ap (λ t. was-cast t y) (all-blank ballotEntries b blank-ballot)
+      ap (λ t. was-cast t y) (all-blank ballot-entries b blank-ballot)
       ∙ blank-uncast y
       ∙ sym (none-below (o .count) (λ s. false) (λ i l. refl));
 }
@@ -132,12 +132,12 @@ votes-same-by n q r c e t Seeking = ap (λ (x : ℕ). bit-ballot x (t .round) + 
 votes-same-by n q r c e t FinishVoting = refl
 votes-same-by n q r c e t FinishAwaiting = omega arith
 votes-same-by n q r c e t Has-decided =
-    ap₂ (λ (x m : ℕ). cond (eqb x 1) (ceilLog2 m) (finish-ballot (t .round) + 1)) e c ∙ all-votes q
+    ap₂ (λ (x m : ℕ). cond (eqb x 1) (ceil-log2 m) (finish-ballot (t .round) + 1)) e c ∙ all-votes q
   where
     all-votes : (q : Rule)
-        → cond (eqb (rule-number q) 1) (ceilLog2 n) (finish-ballot (t .round) + 1) ≡ invariant.votes-by q (record { count = n; rule = q }) (play.decided (t .decision) (t .round))
-    all-votes byStation = refl
-    all-votes byClaim = omega arith
+        → cond (eqb (rule-number q) 1) (ceil-log2 n) (finish-ballot (t .round) + 1) ≡ invariant.votes-by q (record { count = n; rule = q }) (play.decided (t .decision) (t .round))
+    all-votes rule-1 = refl
+    all-votes rule-2 = omega arith
 
 -- who has decided is a station
 decided-station : (o : Opening) (s v : ℕ) (h : History) → Decided o s v h → s < o .count
@@ -254,8 +254,8 @@ module _ (o : Opening) (a : Openable o) (h : History) (f : Claims-fit h) where
       ∙ ap₂ (told-as true) (same .claim) (ap length (same .ballots))
       ∙ sym (look-decided q (y .0) (y .1) (y .2))
 
-  sound : Sound o h
-  sound = record { no-fault = clear; no-42 = λ e z. play-proofs.no-event-42 .holds o h f e (sym (numbers e) ∙ z) }
+  in-ranges : In-ranges o h
+  in-ranges = record { no-fault = clear; no-42 = λ e z. play-proofs.no-event-42 .holds o h f e (sym (numbers e) ∙ z) }
 
   -- the record after one more event shows the play's state after it
   shows-next : (e : Event) → Fitting e → Shows-play o (played r e .settlement) (rules.after o (h ▷ e))
@@ -276,18 +276,18 @@ module _ (o : Opening) (a : Openable o) (h : History) (f : Claims-fit h) where
 
 known-rule : (rule : ℕ) → not (eqb rule 1 || eqb rule 2) ≡ false → (q : Rule) × (rule-number q ≡ rule)
 known-rule rule e =
-    by-bool (eqb rule 1) (λ x. (byStation, sym (eqb-true rule 1 x)))
-    (λ x. (byClaim, sym (eqb-true rule 2 (not-false→true _ (subst (λ (b : Bool). not (b || eqb rule 2) ≡ false) x e)))))
+    by-bool (eqb rule 1) (λ x. (rule-1, sym (eqb-true rule 1 x)))
+    (λ x. (rule-2, sym (eqb-true rule 2 (not-false→true _ (subst (λ (b : Bool). not (b || eqb rule 2) ≡ false) x e)))))
 
 opens-only : (n rule : ℕ) → opened n rule .number ≡ 0 → (o : Opening) × Openable o × (o .count ≡ n) × (rule-number (o .rule) ≡ rule)
 unfolding opened outcome first-met
 opens-only n rule e =
-    let x = refused-not (eqb n 0 || ltb stationEntries n) 40 _ refl e in
+    let x = refused-not (eqb n 0 || ltb station-entries n) 40 _ refl e in
     let y = refused-not (not (eqb rule 1 || eqb rule 2)) 41 0 refl (x .1) in
-    let both = or-false (eqb n 0) (ltb stationEntries n) (x .0) in
+    let both = or-false (eqb n 0) (ltb station-entries n) (x .0) in
     let q = known-rule rule (y .0) in (
       record { count = n; rule = q .0 },
-      record { some-station = pos-of-ne-zero (eqb-false n 0 (both .0)); not-too-many = ltb-false stationEntries n (both .1) },
+      record { some-station = pos-of-ne-zero (eqb-false n 0 (both .0)); not-too-many = ltb-false station-entries n (both .1) },
       refl,
       q .1,
     )
@@ -327,7 +327,7 @@ demands = record {
   opens-only = opens-only;
   blank-refuses = blank-refuses;
   blank-shows = blank-shows;
-  sound = sound;
+  in-ranges = in-ranges;
   demand2 = demand2;
   demand3 = λ o a h f. record {
     told = λ g b. told o a g (fit-beginning g h b f);

@@ -11,12 +11,12 @@ use native.Mathlib.Numerals.{add-one}
 use lib.Dec.{eqb}
 use borrow.Author.Tests.{ne-eqb}
 use Rattle.bits.specs.Digits.{bit}
-use Rattle.bits.specs.Words.{claimBits, withBit, lowAgree, member, insert}
-use Rattle.bits.specs.Log.{ceilLog2}
+use Rattle.bits.specs.Words.{claim-bits, with-bit, low-agree, member, insert}
+use Rattle.bits.specs.Log.{ceil-log2}
 use Rattle.bits.proofs.Masks.{member-same, member-other}
 use Rattle.bits.proofs.Log.{log-le}
 use Rattle.bits.proofs.Words.{word-inside}
-use Rattle.consensus.specs.Events.{Event, claim, deliver, step, lose, answer, Rule, byStation, byClaim, Opening, Openable, ballotsOf}
+use Rattle.consensus.specs.Events.{Event, claim, deliver, step, lose, answer, Rule, rule-1, rule-2, Opening, Openable, ballots-by}
 use Rattle.consensus.specs.Events as events
 use Rattle.consensus.specs.State as play
 use Rattle.consensus.specs.Rules as rules
@@ -36,12 +36,12 @@ use Rattle.entry.specs.declared.entry.Station.{Station}
 use Rattle.entry.specs.declared.entry.Ballot.{Ballot}
 use Rattle.basics.proofs.Lists.{set-again}
 use Rattle.settlement.specs.declared.record.Settlement.{Settlement}
-use Rattle.entry.specs.Entries.{ballotEntries, blank-station, blank-ballot, bit-ballot, spelled, claiming, holding, losing, moved, casting, answering}
+use Rattle.entry.specs.Entries.{ballot-entries, blank-station, blank-ballot, bit-ballot, spelled, claiming, holding, losing, moved, casting, answering}
 use Rattle.settlement.specs.Record.{entry, ballot, with-station, with-ballot}
 use Rattle.event.specs.declared.view.View.{View}
 use Rattle.entry.specs.Stages.{not-idle, in-round, on-finish}
 use Rattle.event.specs.Places.{next-cursor, step-beside, step-ballot}
-use Rattle.event.specs.Step.{next-round, started, staged, bit-taken, finish-taken, found, sought, stepped, voted}
+use Rattle.event.specs.Step.{next-round, started, staged, bit-taken, finish-taken, entry-after-seek, sought, stepped, voted}
 use Rattle.event.specs.Change.{own-after, ballot-after}
 use Rattle.settlement.specs.Events.{effect}
 use Rattle.settlement.specs.Link.{rule-number, stage-of}
@@ -60,7 +60,7 @@ station-again s r =
     ap (λ (q : List Station). record { count = r .count; rule = r .rule; stations = q; ballots = r .ballots }) (set-again (r .stations) s blank-station)
 
 -- numbers that a byte would bend, where the record test holds
-next-round-is : (k : ℕ) → k < claimBits → next-round k ≡ suc k
+next-round-is : (k : ℕ) → k < claim-bits → next-round k ≡ suc k
 next-round-is k h = mod-eq-of-lt (omega arith) ∙ add-one k
 
 next-cursor-is : (n j : ℕ) → 0 < n → next-cursor n j ≡ (j + 1) % n
@@ -83,19 +83,19 @@ moved-shows : (n : ℕ) (t : Station) (st : play.State) (s : ℕ) (c : ℕ → O
 moved-shows n t st s c x g j k d v g' e b early = record { stage = e; claim = x .claim; holds = x .holds; lost = x .lost; cursor = b; early = early }
 
 -- the ballots that there are have entries
-ballots-inside : (r : Rule) (n : ℕ) → n ≤ 32 → ballotsOf r (ceilLog2 n) ≤ ballotEntries
-ballots-inside byStation n l = let m = log-le n 5 l in omega arith
-ballots-inside byClaim n l = le-refl ballotEntries
+ballots-inside : (r : Rule) (n : ℕ) → n ≤ 32 → ballots-by r (ceil-log2 n) ≤ ballot-entries
+ballots-inside rule-1 n l = let m = log-le n 5 l in omega arith
+ballots-inside rule-2 n l = le-refl ballot-entries
 
 spelled-same-by : (r : Rule) (st : play.State) (j v : ℕ) → v ≡ play.claim-of st j → cond (eqb (rule-number r) 1) j v ≡ spelled-by r st j
-spelled-same-by byStation st j v e = refl
-spelled-same-by byClaim st j v e = e
+spelled-same-by rule-1 st j v e = refl
+spelled-same-by rule-2 st j v e = e
 
 module _ (o : Opening) (a : Openable o) (r : Settlement) (st : play.State) (l : Linked o r st) (inv : Inv o st) (short : Short o st) where
   abbrev n : ℕ
   n = o .count
 
-  inside : (b : ℕ) → b < events.ballots o → b < ballotEntries
+  inside : (b : ℕ) → b < events.ballots o → b < ballot-entries
   inside b i = lt-of-lt-of-le i (ballots-inside (o .rule) (o .count) (a .not-too-many))
 
   spelled-same : (j : ℕ) → j < n → spelled (r .rule) j (entry r j .claim) ≡ rules.spelled o st j
@@ -206,7 +206,7 @@ module _ (o : Opening) (a : Openable o) (r : Settlement) (st : play.State) (l : 
     effect-at g = with-ballot (step-ballot (r .rule) (t .round) g) (voted (view-at g) g) (with-station s (stepped (view-at g) s g) r)
 
     -- a station in a round has one that a claim has a bit for
-    low : {g : Stage} → t .stage ≡ g → (in-round g || on-finish g) ≡ true → t .round < claimBits
+    low : {g : Stage} → t .stage ≡ g → (in-round g || on-finish g) ≡ true → t .round < claim-bits
     low e h = round-below r (faultless o a r st l inv short) s (subst (λ (m : ℕ). s < m) (sym (l .count)) below) (rw e h)
 
     abbrev Step-linked : Stage → Type 0
@@ -227,8 +227,8 @@ module _ (o : Opening) (a : Openable o) (r : Settlement) (st : play.State) (l : 
         let answered : play.answered (st .answer-of (rules.bit-ballot o k)) ≡ true = not-false→true _ (refused-not _ 8 0 refl z .0) in
         kept (bit-ballot (r .rule) k) _ _
         (moves Seeking (t .cursor) k _ (t .decision) _
-        (ap (play.seeking (t .cursor) k) (word-inside claimBits k _ (t .word) (low e refl))
-        ∙ ap (λ (v : Bool). play.seeking (t .cursor) k (withBit k v (t .word)))
+        (ap (play.seeking (t .cursor) k) (word-inside claim-bits k _ (t .word) (low e refl))
+        ∙ ap (λ (v : Bool). play.seeking (t .cursor) k (with-bit k v (t .word)))
         (ap (λ (b : ℕ). ballot r b .answer) (ballot-of-round o a r st l inv k) ∙ taken-bit (rules.bit-ballot o k) answered))
         (x .cursor)
         tt)
@@ -270,8 +270,8 @@ module _ (o : Opening) (a : Openable o) (r : Settlement) (st : play.State) (l : 
 
         go : (q : Rule)
             → Follows (first-entry (rule-number q) n) (first-of q)
-        go byStation = choice (eqb n 1) _ _ _ _ (λ w. decides) (λ w. begins)
-        go byClaim = begins
+        go rule-1 = choice (eqb n 1) _ _ _ _ (λ w. decides) (λ w. begins)
+        go rule-2 = begins
 
     from-waiting : Step-linked Waiting
     unfolding stepped voted started rules.step-from
@@ -281,41 +281,41 @@ module _ (o : Opening) (a : Openable o) (r : Settlement) (st : play.State) (l : 
 
     -- the entry that seeking ends with at i, under rule m and with c stations
     abbrev found-of : Rule → ℕ → play.Stage
-    found-of q i = rules.found o st q i (t .round) (t .word)
+    found-of q i = rules.stage-after-seek o st q i (t .round) (t .word)
 
     abbrev found-entry : ℕ → ℕ → ℕ → Station
     found-entry m c i =
         cond (eqb m 1)
-        (cond (eqb (t .round + 1) (ceilLog2 c)) (moved Decided i (t .round) (t .word) (entry r i .claim) t) (moved Voting i (next-round (t .round)) (t .word) (t .decision) t))
+        (cond (eqb (t .round + 1) (ceil-log2 c)) (moved Decided i (t .round) (t .word) (entry r i .claim) t) (moved Voting i (next-round (t .round)) (t .word) (t .decision) t))
         (moved FinishVoting i (t .round) (t .word) (t .decision) t)
 
-    found-same : t .round < claimBits → (q : Rule) (i : ℕ) → i < n → Follows (found-entry (rule-number q) n i) (found-of q i)
-    found-same f byStation i b =
-        subst (λ (m : ℕ). Follows (cond (eqb m (ceilLog2 n)) (moved Decided i (t .round) (t .word) (entry r i .claim) t) (moved Voting i (next-round (t .round)) (t .word) (t .decision) t)) (found-of byStation i)) (sym (add-one (t .round)))
-        (choice (eqb (suc (t .round)) (ceilLog2 n)) _ _ _ _
+    found-same : t .round < claim-bits → (q : Rule) (i : ℕ) → i < n → Follows (found-entry (rule-number q) n i) (found-of q i)
+    found-same f rule-1 i b =
+        subst (λ (m : ℕ). Follows (cond (eqb m (ceil-log2 n)) (moved Decided i (t .round) (t .word) (entry r i .claim) t) (moved Voting i (next-round (t .round)) (t .word) (t .decision) t)) (found-of rule-1 i)) (sym (add-one (t .round)))
+        (choice (eqb (suc (t .round)) (ceil-log2 n)) _ _ _ _
         (λ w. moves Decided i (t .round) (t .word) (entry r i .claim) _ (ap (λ (v : ℕ). play.decided v (t .round)) (l .entries i b .claim)) b tt)
         (λ w.
         moves Voting i (next-round (t .round)) (t .word) (t .decision) _
         (ap (λ (k : ℕ). play.voting i k (t .word)) (next-round-is (t .round) f)) b tt))
-    found-same f byClaim i b = moves FinishVoting i (t .round) (t .word) (t .decision) _ refl b tt
+    found-same f rule-2 i b = moves FinishVoting i (t .round) (t .word) (t .decision) _ refl b tt
 
     -- what a seeking station looks at, with its cursor on i
     abbrev view-beside : ℕ → View
     view-beside i = record { count = r .count; rule = r .rule; own = t; beside = entry r i; ballot = ballot r 0 }
 
-    found-linked : t .round < claimBits → (i : ℕ) → i < n → Follows (found (view-beside i) i) (found-of (o .rule) i)
-    unfolding found
+    found-linked : t .round < claim-bits → (i : ℕ) → i < n → Follows (entry-after-seek (view-beside i) i) (found-of (o .rule) i)
+    unfolding entry-after-seek
     found-linked f i b =
         subst (λ (m : ℕ). Follows (found-entry m (r .count) i) (found-of (o .rule) i)) (sym (l .rule))
         (subst (λ (c : ℕ). Follows (found-entry (rule-number (o .rule)) c i) (found-of (o .rule) i)) (sym (l .count))
         (found-same f (o .rule) i b))
 
-    sought-linked : t .round < claimBits → (i : ℕ) → i < n → Follows (sought (view-beside i) i) (rules.sought o st s i (t .round) (t .word))
+    sought-linked : t .round < claim-bits → (i : ℕ) → i < n → Follows (sought (view-beside i) i) (rules.sought o st s i (t .round) (t .word))
     unfolding sought
     sought-linked f i b =
-        subst (λ (u : Bool). Follows (cond u (found (view-beside i) i) (moved Seeking i (t .round) (t .word) (t .decision) t)) (rules.sought o st s i (t .round) (t .word)))
-        (sym (ap₂ (λ (u : Bool) (v : ℕ). u && lowAgree (t .round) (t .word) v) (x .holds i) (spelled-same i b)))
-        (choice (play.held st s i && lowAgree (t .round) (t .word) (rules.spelled o st i)) _ _ _ _
+        subst (λ (u : Bool). Follows (cond u (entry-after-seek (view-beside i) i) (moved Seeking i (t .round) (t .word) (t .decision) t)) (rules.sought o st s i (t .round) (t .word)))
+        (sym (ap₂ (λ (u : Bool) (v : ℕ). u && low-agree (t .round) (t .word) v) (x .holds i) (spelled-same i b)))
+        (choice (play.held st s i && low-agree (t .round) (t .word) (rules.spelled o st i)) _ _ _ _
         (λ w. found-linked f i b)
         (λ w. moves Seeking i (t .round) (t .word) (t .decision) _ refl b tt))
 
@@ -331,7 +331,7 @@ module _ (o : Opening) (a : Openable o) (r : Settlement) (st : play.State) (l : 
     abbrev finish-entry : Bool → Station
     finish-entry v = cond v (moved Decided (t .cursor) (t .round) (t .word) (t .word) t) (moved Voting (t .cursor) (next-round (t .round)) (t .word) (t .decision) t)
 
-    finish-same : t .round < claimBits → (v : Bool) → Follows (finish-entry v) (rules.finished v (t .cursor) (t .round) (t .word))
+    finish-same : t .round < claim-bits → (v : Bool) → Follows (finish-entry v) (rules.finished v (t .cursor) (t .round) (t .word))
     finish-same f true = moves Decided (t .cursor) (t .round) (t .word) (t .word) _ refl (x .cursor) tt
     finish-same f false =
         moves Voting (t .cursor) (next-round (t .round)) (t .word) (t .decision) _

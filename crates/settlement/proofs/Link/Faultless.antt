@@ -6,9 +6,9 @@ use mathlib.Core.Bool.{Bool, false, not, _&&_, _||_}
 use mathlib.Core.Option.{Option}
 use lib.Dec.{eqb, ltb, leb}
 use borrow.Author.Tests.{lt-leb, le-ltb}
-use Rattle.bits.specs.Log.{ceilLog2}
-use Rattle.bits.specs.Words.{claimBits}
-use Rattle.consensus.specs.Events.{Rule, byStation, byClaim, Opening, Openable}
+use Rattle.bits.specs.Log.{ceil-log2}
+use Rattle.bits.specs.Words.{claim-bits}
+use Rattle.consensus.specs.Events.{Rule, rule-1, rule-2, Opening, Openable}
 use Rattle.consensus.specs.State as play
 use Rattle.basics.specs.Below.{any-below}
 use Rattle.basics.proofs.Below.{none-below}
@@ -20,7 +20,7 @@ use Rattle.entry.specs.declared.entry.Stage.{Stage}
 use Rattle.entry.specs.declared.entry.Stage.the-variants.{Idle, Waiting, Voting, Awaiting, Seeking, FinishVoting, FinishAwaiting, Decided}
 use Rattle.entry.specs.declared.entry.Station.{Station}
 use Rattle.settlement.specs.declared.record.Settlement.{Settlement}
-use Rattle.entry.specs.Entries.{stationEntries}
+use Rattle.entry.specs.Entries.{station-entries}
 use Rattle.settlement.specs.Record.{entry}
 use Rattle.entry.specs.Stages.{in-round, on-finish, past-waiting}
 use Rattle.settlement.specs.Fault.{station-fault, fault}
@@ -29,40 +29,40 @@ use Rattle.settlement.proofs.Link.Linked.{Linked}
 
 -- the rounds of each stage, by rule
 abbrev Rounds : Rule → ℕ → Stage → ℕ → Type 0
-Rounds byStation n g k = ((in-round g && leb (ceilLog2 n) k) ≡ false) × (on-finish g ≡ false)
-Rounds byClaim n g k = (past-waiting g && leb claimBits k) ≡ false
+Rounds rule-1 n g k = ((in-round g && leb (ceil-log2 n) k) ≡ false) × (on-finish g ≡ false)
+Rounds rule-2 n g k = (past-waiting g && leb claim-bits k) ≡ false
 
 rounds-ok : (n : ℕ) (r : Rule) (st : play.State) → Inv (opening n r) st → Short (opening n r) st
     → (g : Stage) (j k d v : ℕ) (holds : ℕ → Bool) (cast : ℕ → Option Bool)
     → Stage-ok (opening n r) st (stage-of g j k d v) holds cast → Rounds r n g k
-rounds-ok n byStation st inv short Idle j k d v holds cast x = (refl, refl)
-rounds-ok n byStation st inv short Waiting j k d v holds cast x = (refl, refl)
-rounds-ok n byStation st inv short Voting j k d v holds cast x = (lt-leb _ k (x .round), refl)
-rounds-ok n byStation st inv short Awaiting j k d v holds cast x = (lt-leb _ k (x .0 .round), refl)
-rounds-ok n byStation st inv short Seeking j k d v holds cast x = (lt-leb _ k (x .round), refl)
-rounds-ok n byStation st inv short FinishVoting j k d v holds cast x = absurd (no-such-rule (x .0))
-rounds-ok n byStation st inv short FinishAwaiting j k d v holds cast x = absurd (no-such-rule (x .0))
-rounds-ok n byStation st inv short Decided j k d v holds cast x = (refl, refl)
-rounds-ok n byClaim st inv short Idle j k d v holds cast x = refl
-rounds-ok n byClaim st inv short Waiting j k d v holds cast x = refl
-rounds-ok n byClaim st inv short Voting j k d v holds cast x = lt-leb _ k (short refl k (x .round))
-rounds-ok n byClaim st inv short Awaiting j k d v holds cast x = lt-leb _ k (short refl k (x .0 .round))
-rounds-ok n byClaim st inv short Seeking j k d v holds cast x = lt-leb _ k (short refl k (x .round))
-rounds-ok n byClaim st inv short FinishVoting j k d v holds cast x = lt-leb _ k (short refl k (x .1 .round))
-rounds-ok n byClaim st inv short FinishAwaiting j k d v holds cast x = lt-leb _ k (short refl k (x .1 .round))
-rounds-ok n byClaim st inv short Decided j k d v holds cast x = lt-leb _ k (short refl k (x .4))
+rounds-ok n rule-1 st inv short Idle j k d v holds cast x = (refl, refl)
+rounds-ok n rule-1 st inv short Waiting j k d v holds cast x = (refl, refl)
+rounds-ok n rule-1 st inv short Voting j k d v holds cast x = (lt-leb _ k (x .round), refl)
+rounds-ok n rule-1 st inv short Awaiting j k d v holds cast x = (lt-leb _ k (x .0 .round), refl)
+rounds-ok n rule-1 st inv short Seeking j k d v holds cast x = (lt-leb _ k (x .round), refl)
+rounds-ok n rule-1 st inv short FinishVoting j k d v holds cast x = absurd (no-such-rule (x .0))
+rounds-ok n rule-1 st inv short FinishAwaiting j k d v holds cast x = absurd (no-such-rule (x .0))
+rounds-ok n rule-1 st inv short Decided j k d v holds cast x = (refl, refl)
+rounds-ok n rule-2 st inv short Idle j k d v holds cast x = refl
+rounds-ok n rule-2 st inv short Waiting j k d v holds cast x = refl
+rounds-ok n rule-2 st inv short Voting j k d v holds cast x = lt-leb _ k (short refl k (x .round))
+rounds-ok n rule-2 st inv short Awaiting j k d v holds cast x = lt-leb _ k (short refl k (x .0 .round))
+rounds-ok n rule-2 st inv short Seeking j k d v holds cast x = lt-leb _ k (short refl k (x .round))
+rounds-ok n rule-2 st inv short FinishVoting j k d v holds cast x = lt-leb _ k (short refl k (x .1 .round))
+rounds-ok n rule-2 st inv short FinishAwaiting j k d v holds cast x = lt-leb _ k (short refl k (x .1 .round))
+rounds-ok n rule-2 st inv short Decided j k d v holds cast x = lt-leb _ k (short refl k (x .4))
 
 station-clear : (r : Rule) (n : ℕ) (t : Station) → t .cursor < n → Rounds r n (t .stage) (t .round) → station-fault n (rule-number r) t ≡ false
 unfolding station-fault
-station-clear byStation n t c x =
-    ap (λ (p : Bool). ((p || (in-round (t .stage) && leb (ceilLog2 n) (t .round))) || on-finish (t .stage)) || false) (lt-leb n (t .cursor) c)
+station-clear rule-1 n t c x =
+    ap (λ (p : Bool). ((p || (in-round (t .stage) && leb (ceil-log2 n) (t .round))) || on-finish (t .stage)) || false) (lt-leb n (t .cursor) c)
     ∙ ap₂ (λ (p q : Bool). (p || q) || false) (x .0) (x .1)
-station-clear byClaim n t c x =
-    ap (λ (p : Bool). ((p || false) || false) || (past-waiting (t .stage) && leb claimBits (t .round))) (lt-leb n (t .cursor) c) ∙ x
+station-clear rule-2 n t c x =
+    ap (λ (p : Bool). ((p || false) || false) || (past-waiting (t .stage) && leb claim-bits (t .round))) (lt-leb n (t .cursor) c) ∙ x
 
 pub rule-known : (r : Rule) → not (eqb (rule-number r) 1 || eqb (rule-number r) 2) ≡ false
-rule-known byStation = refl
-rule-known byClaim = refl
+rule-known rule-1 = refl
+rule-known rule-2 = refl
 
 module _ (o : Opening) (a : Openable o) (r : Settlement) (st : play.State) (l : Linked o r st) (inv : Inv o st) (short : Short o st) where
   entry-clear : (s : ℕ) → s < o .count → station-fault (o .count) (rule-number (o .rule)) (entry r s) ≡ false
@@ -76,8 +76,8 @@ module _ (o : Opening) (a : Openable o) (r : Settlement) (st : play.State) (l : 
   pub faultless : fault r ≡ false
   unfolding fault
   faultless =
-      ap₂ (λ (n k : ℕ). (ltb stationEntries n || not (eqb k 1 || eqb k 2)) || any-below n (λ s. station-fault n k (entry r s))) (l .count) (l .rule)
+      ap₂ (λ (n k : ℕ). (ltb station-entries n || not (eqb k 1 || eqb k 2)) || any-below n (λ s. station-fault n k (entry r s))) (l .count) (l .rule)
       ∙ ap₂ (λ (p q : Bool). (p || q) || any-below (o .count) (λ s. station-fault (o .count) (rule-number (o .rule)) (entry r s)))
-      (le-ltb stationEntries (o .count) (a .not-too-many))
+      (le-ltb station-entries (o .count) (a .not-too-many))
       (rule-known (o .rule))
       ∙ none-below (o .count) (λ s. station-fault (o .count) (rule-number (o .rule)) (entry r s)) entry-clear

@@ -23,7 +23,7 @@ use Rattle.entry.specs.declared.entry.Stage.the-variants.{Idle, Waiting, Voting
 use Rattle.entry.specs.declared.entry.Station.{Station}
 use Rattle.entry.specs.declared.entry.Ballot.{Ballot}
 use Rattle.settlement.specs.declared.record.Settlement.{Settlement}
-use Rattle.entry.specs.Entries.{stationEntries, ballotEntries, blank-station, blank-ballot, was-cast, casting, answering}
+use Rattle.entry.specs.Entries.{station-entries, ballot-entries, blank-station, blank-ballot, was-cast, casting, answering}
 use Rattle.settlement.specs.Record.{entry, ballot, with-station, with-ballot}
 use Rattle.settlement.specs.Link.{rule-number, stands-at, answer-in, Shows-play}
 
@@ -50,8 +50,8 @@ pub record Entry-shows (n : ℕ) (t : Station) (p : play.Station) : Type 0 where
 pub record Linked (o : Opening) (r : Settlement) (st : play.State) : Type 0 where
   pub count : r .count ≡ o .count
   pub rule : r .rule ≡ rule-number (o .rule)
-  pub stations : length (r .stations) ≡ stationEntries
-  pub ballots : length (r .ballots) ≡ ballotEntries
+  pub stations : length (r .stations) ≡ station-entries
+  pub ballots : length (r .ballots) ≡ ballot-entries
   pub entries : (s : ℕ) → s < o .count → Entry-shows (o .count) (entry r s) (st .station s)
   pub answer : (b : ℕ) → answer-in (ballot r b) ≡ st .answer-of b
   pub cast : (b : ℕ) (a : Bool) → was-cast (ballot r b) a ≡ any-below (o .count) (λ s. is-bit a (st .station s .cast b))
@@ -114,7 +114,7 @@ module _ (o : Opening) (a : Openable o) (r : Settlement) (st : play.State) (l : 
   station-inside : (s : ℕ) → s < o .count → s < length (r .stations)
   station-inside s b = subst (λ (x : ℕ). s < x) (sym (l .stations)) (lt-of-lt-of-le b (a .not-too-many))
 
-  ballot-inside : (b : ℕ) → b < ballotEntries → b < length (r .ballots)
+  ballot-inside : (b : ℕ) → b < ballot-entries → b < length (r .ballots)
   ballot-inside b i = subst (λ (x : ℕ). b < x) (sym (l .ballots)) i
 
   -- an entry replaced, with the casts as they were
@@ -140,7 +140,7 @@ module _ (o : Opening) (a : Openable o) (r : Settlement) (st : play.State) (l : 
   }
 
   -- an entry replaced and a bit cast, in a ballot that the station has not voted in
-  pub vote-linked : (s : ℕ) → s < o .count → (t : Station) (p : play.Station) → Entry-shows (o .count) t p → (b : ℕ) → b < ballotEntries → (v : Bool)
+  pub vote-linked : (s : ℕ) → s < o .count → (t : Station) (p : play.Station) → Entry-shows (o .count) t p → (b : ℕ) → b < ballot-entries → (v : Bool)
       → st .station s .cast b ≡ none → p .cast ≡ play.update (st .station s .cast) b (some v)
       → Linked o (with-ballot b (casting v (ballot r b)) (with-station s t r)) (play.set-station st s p)
   vote-linked s below t p x b inside v unvoted now = record {
@@ -197,7 +197,7 @@ module _ (o : Opening) (a : Openable o) (r : Settlement) (st : play.State) (l : 
           (λ e. cast-other v y (ballot r b) e ∙ l .cast b y ∙ ap (any-below (o .count)) (fun-ext (λ q. other y e q)))
 
   -- a ballot answered
-  pub answer-linked : (b : ℕ) → b < ballotEntries → (v : Bool)
+  pub answer-linked : (b : ℕ) → b < ballot-entries → (v : Bool)
       → Linked o (with-ballot b (answering v (ballot r b)) r) (record { station = st .station; answer-of = play.update (st .answer-of) b (some v) })
   answer-linked b inside v = record {
     count = l .count;

@@ -7,9 +7,9 @@ use mathlib.Core.Option.{Option, none, some}
 use native.Mathlib.Omega.{arith}
 use lib.Dec.{eqb, ltb, eqb·suc-suc}
 use borrow.Author.Tests.{ne-eqb}
-use Rattle.bits.specs.Log.{ceilLog2}
+use Rattle.bits.specs.Log.{ceil-log2}
 use Rattle.bits.specs.Words.{member}
-use Rattle.consensus.specs.Events.{Event, claim, deliver, step, lose, answer, Rule, byStation, byClaim, Opening, Openable, ballotsOf}
+use Rattle.consensus.specs.Events.{Event, claim, deliver, step, lose, answer, Rule, rule-1, rule-2, Opening, Openable, ballots-by}
 use Rattle.consensus.specs.Events as events
 use Rattle.consensus.specs.State as play
 use Rattle.consensus.specs.Rules as rules
@@ -25,7 +25,7 @@ use Rattle.entry.specs.declared.entry.Stage.the-variants.{Idle, Waiting, Voting
 use Rattle.entry.specs.declared.entry.Station.{Station}
 use Rattle.entry.specs.declared.entry.Ballot.{Ballot}
 use Rattle.settlement.specs.declared.record.Settlement.{Settlement}
-use Rattle.entry.specs.Entries.{ballotEntries, ballots, bit-ballot, no-station}
+use Rattle.entry.specs.Entries.{ballot-entries, ballots, bit-ballot, no-station}
 use Rattle.entry.specs.Stages.{at, not-idle, is-decided}
 use Rattle.event.specs.Places.{step-ballot}
 use Rattle.event.specs.Tests.{last-ballot}
@@ -54,12 +54,12 @@ pub answer-same : (t : Ballot) (x : Option Bool) → answer-in t ≡ x → t .an
 answer-same t x e p = sym e ∙ ap (λ (b : Bool). cond b (some (t .answer)) none) p
 
 pub bit-ballot-same : (r : Rule) (k : ℕ) → cond (eqb (rule-number r) 1) k (2 * k) ≡ bit-ballot-by r k
-bit-ballot-same byStation k = refl
-bit-ballot-same byClaim k = refl
+bit-ballot-same rule-1 k = refl
+bit-ballot-same rule-2 k = refl
 
-ballots-same : (r : Rule) (n : ℕ) → 0 < n → cond (eqb n 0) 0 (cond (eqb (rule-number r) 1) (ceilLog2 n) ballotEntries) ≡ ballotsOf r (ceilLog2 n)
-ballots-same byStation n l = ap (λ (b : Bool). cond b 0 (ceilLog2 n)) (ne-eqb n 0 (λ e. omega arith))
-ballots-same byClaim n l = ap (λ (b : Bool). cond b 0 ballotEntries) (ne-eqb n 0 (λ e. omega arith))
+ballots-same : (r : Rule) (n : ℕ) → 0 < n → cond (eqb n 0) 0 (cond (eqb (rule-number r) 1) (ceil-log2 n) ballot-entries) ≡ ballots-by r (ceil-log2 n)
+ballots-same rule-1 n l = ap (λ (b : Bool). cond b 0 (ceil-log2 n)) (ne-eqb n 0 (λ e. omega arith))
+ballots-same rule-2 n l = ap (λ (b : Bool). cond b 0 ballot-entries) (ne-eqb n 0 (λ e. omega arith))
 
 module _ (o : Opening) (a : Openable o) (r : Settlement) (st : play.State) (l : Linked o r st) (inv : Inv o st) where
   pub no-station-same : (s : ℕ) → no-station (r .count) s ≡ rules.no-station o s
@@ -74,7 +74,7 @@ module _ (o : Opening) (a : Openable o) (r : Settlement) (st : play.State) (l : 
 
   pub ballots-count : ballots (r .count) (r .rule) ≡ events.ballots o
   ballots-count =
-      ap₂ (λ (n x : ℕ). cond (eqb n 0) 0 (cond (eqb x 1) (ceilLog2 n) ballotEntries)) (l .count) (l .rule)
+      ap₂ (λ (n x : ℕ). cond (eqb n 0) 0 (cond (eqb x 1) (ceil-log2 n) ballot-entries)) (l .count) (l .rule)
       ∙ ballots-same (o .rule) (o .count) (a .some-station)
 
   pub ballot-answered : (b : ℕ) → ballot r b .answered ≡ play.answered (st .answer-of b)
@@ -88,7 +88,7 @@ module _ (o : Opening) (a : Openable o) (r : Settlement) (st : play.State) (l : 
   finish-answered k = ap (λ (x : Bool). not x) (ballot-answered (finish-ballot k))
 
   -- the last test of STEP, where the ballot is answered
-  last-same : o .rule ≡ byClaim → (k : ℕ) → not (play.answered (st .answer-of (finish-ballot k))) ≡ false
+  last-same : o .rule ≡ rule-2 → (k : ℕ) → not (play.answered (st .answer-of (finish-ballot k))) ≡ false
       → refuse (not (ballot r (finish-ballot k) .answer) && eqb (finish-ballot k) last-ballot) 42 0 ≡ last-refusal o (st .answer-of (finish-ballot k)) (finish-ballot k)
   last-same q k e = go (ballot r (finish-ballot k) .answer) (answer-same (ballot r (finish-ballot k)) (st .answer-of (finish-ballot k)) (l .answer (finish-ballot k)) was)
     where
@@ -96,7 +96,7 @@ module _ (o : Opening) (a : Openable o) (r : Settlement) (st : play.State) (l : 
       was = ballot-answered (finish-ballot k) ∙ not-false→true (play.answered (st .answer-of (finish-ballot k))) e
 
       last : eqb (finish-ballot k) last-ballot ≡ eqb (suc (finish-ballot k)) (events.ballots o)
-      last = sym (eqb·suc-suc (finish-ballot k) last-ballot) ∙ ap (eqb (suc (finish-ballot k))) (sym (ap (λ (x : Rule). ballotsOf x (events.rounds o)) q))
+      last = sym (eqb·suc-suc (finish-ballot k) last-ballot) ∙ ap (eqb (suc (finish-ballot k))) (sym (ap (λ (x : Rule). ballots-by x (events.rounds o)) q))
 
       go : (v : Bool) → st .answer-of (finish-ballot k) ≡ some v
           → refuse (not v && eqb (finish-ballot k) last-ballot) 42 0 ≡ last-refusal o (st .answer-of (finish-ballot k)) (finish-ballot k)

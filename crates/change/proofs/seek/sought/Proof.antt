@@ -5,7 +5,7 @@ use Rattle.change.proofs.seek.sought.Tie as tie
 
 returns : tie.Need-returns
 unfolding sought
-returns c = rw (c .found .ensures, rw (c .before .before .low-bits-agree .ensures, c .before .before .before .spelled .ensures, c .before .before .before .before .mask-has .ensures) at (c .before .if1 .taken))
+returns c = rw (c .entry-after-seek .ensures, rw (c .before .before .low-bits-agree .ensures, c .before .before .before .spelled .ensures, c .before .before .before .before .mask-has .ensures) at (c .before .if1 .taken))
 
 returns-2 : tie.Need-returns-2
 unfolding sought

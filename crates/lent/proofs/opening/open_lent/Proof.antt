@@ -34,7 +34,7 @@ use Rattle.settlement.proofs.open.open.Met.{met}
 use Rattle.lent.proofs.Numbers.{Numbers, Fit, rows, values, passed, spelt, fit, are-passed, make, machine, locals, operands, env, alloc-numbers, pass-numbers, free-numbers, opds-swap, load-numbers}
 use Rattle.lent.proofs.Settled.{small, returned, opened as looked-behind}
 use Rattle.lent.proofs.Contracts.{Lent, proved-over}
-use Rattle.lent.proofs.Stored.{lentTy, lent-env, End, end, ended, ends}
+use Rattle.lent.proofs.Stored.{lent-type, lent-env, End, end, ended, ends}
 use Rattle.lent.proofs.Entry as entry
 use Rattle.lent.proofs.opening.open_lent.Key.{name}
 use Rattle.lent.proofs.opening.open_lent.Statement.{statement}
@@ -56,7 +56,7 @@ function c = record {
   lifetimes = 1;
   outlives = [];
   params = 3;
-  locals = local (tyInt w8) valueLocal ∷ local lentTy valueLocal ∷ locals ws (local O′.mir valueLocal ∷ []);
+  locals = local (tyInt w8) valueLocal ∷ local lent-type valueLocal ∷ locals ws (local O′.mir valueLocal ∷ []);
   body = seq (call callee-def.name (operands ws 2) (place 4 [])) c;
 }
 

@@ -6,7 +6,7 @@ use native.Mathlib.Numerals.{add-one}
 use lib.ListN.{length, getD}
 use denote.Ref.{now}
 use Rattle.basics.proofs.Lists.{unmapped-length}
-use Rattle.entry.specs.Entries.{stationEntries, blank-station}
+use Rattle.entry.specs.Entries.{station-entries, blank-station}
 use borrow.Author.Needs.{needs}
 use Rattle.report.specs.Text.{station-lines, line-in}
 use Rattle.basics.specs.Written.{Wrote}
@@ -36,7 +36,7 @@ unfolding station-lines
 loop-again c =
     let start = c .before .before .before .before .before .before .before .before .before .before in
     let s = c .before .before .before .before .before .before .before .before .loop .s in
-    let l : length (start .args .t6) ≡ stationEntries = search (unmapped-length, needs) in
+    let l : length (start .args .t6) ≡ station-entries = search (unmapped-length, needs) in
     let place = c .before .before .before .before .before .before .station-place .ensures .place in
     let t : c .before .before .before .before .entry-or-blank .result ≡ getD (start .args .t6) s blank-station =
     rw place at (c .before .before .before .before .entry-or-blank .ensures) ∙ entry-at (start .args .t6) s l in

@@ -1,23 +1,23 @@
--- `change::seek::found`: each branch is the definition's, which chooses by the rule and the last round too. Assumes nothing.
-use Rattle.event.specs.Step.{found}
+-- `change::seek::entry_after_seek`: each branch is the definition's, which chooses by the rule and the last round too. Assumes nothing.
+use Rattle.event.specs.Step.{entry-after-seek}
 use borrow.Author.Needs.{needs}
-use Rattle.change.proofs.seek.found.Statement.{statement}
-use Rattle.change.proofs.seek.found.Tie as tie
+use Rattle.change.proofs.seek.entry_after_seek.Statement.{statement}
+use Rattle.change.proofs.seek.entry_after_seek.Tie as tie
 
 returns : tie.Need-returns
-unfolding found
+unfolding entry-after-seek
 returns c = rw (c .moved .ensures, c .before .before .if1 .taken, rw (c .before .before .before .ceil-log2 .ensures) at (c .before .if2 .taken))
 
 returns-2 : tie.Need-returns-2
-unfolding found
+unfolding entry-after-seek
 returns-2 c = rw (c .moved2 .ensures, c .before .next-round .ensures, c .before .before .before .if1 .taken, rw (c .before .before .before .before .ceil-log2 .ensures) at (c .before .before .if2 .left))
 
 returns-3 : tie.Need-returns-3
-unfolding found
+unfolding entry-after-seek
 returns-3 c = rw (c .moved3 .ensures, c .before .if1 .left)
 
-pub found-spec : {M : Type 1} → statement M
-found-spec =
+pub entry-after-seek-spec : {M : Type 1} → statement M
+entry-after-seek-spec =
     tie.close
     (tie.spec
     (λ cast-last. search needs)
