@@ -4,7 +4,7 @@
    - A buffer is a pointer to as many bytes as its length says. They may be read, and written where it is not const.
    - A length is that of a real object: (size_t)-1 is none. At length 0 the pointer is not followed and may be NULL.
    - The two buffers of one call do not overlap. During the call nobody else writes either, nor reads the one that is written.
-   - Room on the stack: a report was measured to take 5.3 KB (`./bench` prints it); no bound is proved.
+   - Room on the stack: `./bench` prints how much a report took; no bound is proved.
    Nothing else is asked of any argument. No function allocates, and none keeps a pointer. */
 #ifndef DAGMUIZE_H
 #define DAGMUIZE_H

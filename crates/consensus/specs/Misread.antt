@@ -8,11 +8,12 @@ use Rattle.bits.specs.Words.{low-agree}
 use Rattle.consensus.specs.Events.{claim, deliver, step, lose, answer, History, start, _▷_, rule-2}
 use Rattle.consensus.specs.State.{decided}
 use Rattle.consensus.specs.Rules.{after}
-use Rattle.consensus.specs.Figure.{View, Does, blocked, goes, Figure, event}
+use Rattle.consensus.specs.Figure.{View, Does, goes, Figure, event}
 use Rattle.consensus.specs.Figure2 as two
 use Rattle.consensus.specs.Figure2.{line4, line5, line6, line7, line8, in8, line9, line10, line11, line12, in12, line13, line14, line15, returned}
-use Rattle.consensus.specs.System.{System, view}
-use Rattle.consensus.specs.Runs.{delivery, happens, run}
+use Rattle.consensus.specs.System.{System}
+use Rattle.consensus.specs.Runs.{run}
+use Rattle.consensus.specs.Told.{followed-by}
 use Rattle.consensus.specs.Examples.{opening, three-and-five}
 
 -- a test of d, in round k, against prop[j]
@@ -88,9 +89,8 @@ pub record Misread : Type 0 where
   pub as-zero : run-with until-zero finish-zero alone-with-2 .process 0 .place ≡ returned 0
   -- ⊥ passed by line 10: it goes into round 1 with j = 1, and stands at line 8, where prop[1] has no bit to propose
   pub passed : run-with until-passed whole alone-with-2 .process 0 .place ≡ line8 1 1 0
-  -- there it can do nothing, and nothing can come: station 1 crashed before it broadcast. "prop[j] ≠ ⊥ by line 10" was needed
-  pub stuck : event (figure-with until-passed whole) (view 2 (run-with until-passed whole alone-with-2) 0) (line8 1 1 0) ≡ blocked
-  pub nothing-comes : happens 2 (event (figure-with until-passed whole)) (run-with until-passed whole alone-with-2) (delivery 1 0) ≡ none
+  -- and there it stands for ever, whatever else happens: station 1 crashed before it broadcast. "prop[j] ≠ ⊥ by line 10" was needed
+  pub for-ever : (h : History) → run-with until-passed whole (followed-by alone-with-2 h) .process 0 .place ≡ line8 1 1 0
   -- claims 3 and 5, line 11 by the low bits: both decide 1, which nobody claimed. With whole claims both go on to round 1
   pub low-bits-0 : run-with two.fits finish-low three-and-five-on .process 0 .place ≡ returned 1
   pub low-bits-1 : run-with two.fits finish-low three-and-five-on .process 1 .place ≡ returned 1

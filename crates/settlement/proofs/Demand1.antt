@@ -7,12 +7,12 @@ use mathlib.Core.List.{List, [], _∷_}
 use lib.Dec.{eqb}
 use Rattle.consensus.specs.Events.{Event, claim, deliver, step, lose, answer}
 use Rattle.basics.proofs.Bools.{no-clash}
-use Rattle.basics.proofs.Refusals.{refused-not}
+use Rattle.basics.proofs.Refusals.{refused-not, tests-in-order}
 use Rattle.settlement.specs.declared.record.Settlement.{Settlement}
 use Rattle.settlement.specs.declared.record.Outcome.{Outcome}
 use Rattle.settlement.specs.Events.{tests, number, outcome, effect, played}
-use Rattle.basics.specs.Tests.{Test, when, first-met}
-use Rattle.settlement.specs.Demand1.{None-met, Met-first, Demand1}
+use Rattle.basics.specs.Tests.{Test, when, first-met, None-met}
+use Rattle.settlement.specs.Demand1.{Met-first, Demand1}
 use Rattle.settlement.proofs.Refusals.{refused-outcome, accepted-outcome}
 
 abbrev Numbered : List Test → Type 0
@@ -23,11 +23,6 @@ none-met : (ts : List Test) → Numbered ts → first-met ts ≡ 0 → None-met 
 unfolding first-met
 none-met [] h e = tt
 none-met (when met k ∷ ts) h e = let rest = refused-not met k (first-met ts) (h .0) e in (rest .0, none-met ts (h .1) (rest .1))
-
-none-gives : (ts : List Test) → None-met ts → first-met ts ≡ 0
-unfolding first-met
-none-gives [] h = refl
-none-gives (when met k ∷ ts) h = rw (h .0) (none-gives ts (h .1))
 
 met-first : (ts : List Test) (k : ℕ) → (k ≡ 0 → ⊥) → first-met ts ≡ k → Met-first k ts
 unfolding first-met
@@ -56,6 +51,6 @@ demand1 =
     record {
       refused = λ r e k h. (met-first (tests r e) k h, first-gives (tests r e) k);
       unchanged = λ r e h. ap (λ (o : Outcome). o .settlement) (refused-outcome (number r e) (effect r e) r h);
-      accepted = λ r e. (none-met (tests r e) (numbered r e), none-gives (tests r e));
+      accepted = λ r e. (none-met (tests r e) (numbered r e), tests-in-order .accepted (tests r e));
       advanced = λ r e h. ap (λ (o : Outcome). o .settlement) (accepted-outcome (number r e) (effect r e) r h);
     }

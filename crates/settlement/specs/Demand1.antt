@@ -7,12 +7,7 @@ use mathlib.Core.List.{List, [], _∷_}
 use Rattle.consensus.specs.Events.{Event}
 use Rattle.settlement.specs.declared.record.Settlement.{Settlement}
 use Rattle.settlement.specs.Events.{tests, effect, played}
-use Rattle.basics.specs.Tests.{Test, when}
-
--- no test of the list is met
-abbrev pub None-met : List Test → Type 0
-None-met [] = Unit {0}
-None-met (when met number ∷ ts) = (met ≡ false) × None-met ts
+use Rattle.basics.specs.Tests.{Test, when, None-met}
 
 -- a test of the list is met, and the first that is gives the number k
 abbrev pub Met-first : ℕ → List Test → Type 0
