@@ -1,0 +1,7 @@
+-- Laws that belong to no one function.
+--     Lists     entries laid one after the other, cut and replaced
+--     Entries   an entry and its bytes, both ways
+--     Image     an image and its record, both ways
+pub mod Lists
+pub mod Entries
+pub mod Image

@@ -1,0 +1,104 @@
+-- A settlement as bytes that the caller keeps: the version, the record's numbers, its 32 station entries and its 64 ballot entries. Assumes nothing.
+use Prim.Native.Nat.{ℕ, _+_, _*_, _<_}
+use mathlib.Core.Path.{_≡_}
+use mathlib.Core.Bool.{Bool, not, cond, _||_}
+use mathlib.Core.List.{List, [], _∷_, _++_}
+use mathlib.Core.Option.{Option, none, some}
+use lib.Dec.{eqb}
+use lib.ListN.{length, drop, getD}
+use Rattle.basics.specs.Bytes.{byte, In-bytes}
+use Rattle.basics.specs.Below.{any-below}
+use Rattle.basics.specs.Tests.{Test, when, first-met}
+use Rattle.entry.specs.declared.entry.Station.{Station}
+use Rattle.entry.specs.declared.entry.Ballot.{Ballot}
+use Rattle.entry.specs.Entries.{station-entries, ballot-entries, blank-station}
+use Rattle.settlement.specs.declared.record.Settlement.{Settlement}
+use Rattle.image.specs.Lists.{flat, cut}
+use Rattle.image.specs.Entries.{station-bytes, station-from, ballot-bytes, ballot-from, no-mark, station-unread}
+
+-- the layout: the version at 0, n at 1, the rule at 2, the stations from 3 on, the ballots after them
+abbrev pub version : ℕ
+version = 1
+
+abbrev pub station-width : ℕ
+station-width = 20
+
+abbrev pub ballot-width : ℕ
+ballot-width = 4
+
+abbrev pub station-at : ℕ → ℕ
+station-at s = 3 + station-width * s
+
+abbrev pub ballot-at : ℕ → ℕ
+ballot-at b = 3 + station-width * station-entries + ballot-width * b
+
+abbrev pub image-bytes : ℕ
+image-bytes = ballot-at ballot-entries
+
+unfoldable pub image-of : Settlement → List ℕ
+image-of r = version ∷ r .count ∷ r .rule ∷ flat station-bytes (r .stations) ++ flat ballot-bytes (r .ballots)
+
+-- what the bytes say where they are an image
+abbrev pub stations-in : List ℕ → List Station
+stations-in b = cut station-from station-width station-entries (drop (station-at 0) b)
+
+abbrev pub ballots-in : List ℕ → List Ballot
+ballots-in b = cut ballot-from ballot-width ballot-entries (drop (ballot-at 0) b)
+
+unfoldable pub record-in : List ℕ → Settlement
+record-in b = record { count = byte b 1; rule = byte b 2; stations = stations-in b; ballots = ballots-in b }
+
+-- ---- which bytes are no image
+
+-- a stage or a mark that does not exist, in any entry
+unfoldable pub unread : List ℕ → Bool
+unread b =
+    any-below station-entries (λ s. station-unread (drop (station-at s) b))
+    || any-below (ballot-width * ballot-entries) (λ i. no-mark (byte (drop (ballot-at 0) b) i))
+
+abbrev pub other-length : List ℕ → Bool
+other-length b = not (eqb (length b) image-bytes)
+
+-- another length, another version; a stage or a mark that does not exist is a record outside its ranges
+abbrev pub image-tests : List ℕ → List Test
+image-tests b =
+    when (other-length b) 80
+    ∷ when (not (eqb (byte b 0) version)) 81
+    ∷ when (unread b) 42
+    ∷ []
+
+unfoldable pub no-image : List ℕ → ℕ
+no-image b = first-met (image-tests b)
+
+unfoldable pub record-of : List ℕ → Option Settlement
+record-of b = cond (eqb (no-image b) 0) (some (record-in b)) none
+
+-- the number of an operation on an image: what the bytes are if they are none, else what the operation says
+abbrev pub image-first : List ℕ → ℕ → ℕ
+image-first b number = cond (eqb (no-image b) 0) number (no-image b)
+
+-- ---- both ways
+
+-- a record whose numbers fit their types
+pub record Station-fits (t : Station) : Type 0 where
+  pub cursor : t .cursor < 256
+  pub round : t .round < 256
+  pub held : t .held < 4294967296
+  pub claim : t .claim < 4294967296
+  pub word : t .word < 4294967296
+  pub decision : t .decision < 4294967296
+
+pub record Record-fits (r : Settlement) : Type 0 where
+  pub count : r .count < 256
+  pub rule : r .rule < 256
+  pub station-entries : length (r .stations) ≡ 32
+  pub ballot-entries : length (r .ballots) ≡ 64
+  pub stations : (s : ℕ) → s < 32 → Station-fits (getD (r .stations) s blank-station)
+
+pub record Round-trip : Type 0 where
+  -- every record comes back from its image
+  pub of-record : (r : Settlement) → Record-fits r → record-of (image-of r) ≡ some r
+  -- and bytes that are an image are that of their record, so that no two images are of one record
+  pub of-bytes : (b : List ℕ) (r : Settlement) → In-bytes b → record-of b ≡ some r → image-of r ≡ b
+  -- an image is of one length
+  pub one-length : (r : Settlement) → Record-fits r → length (image-of r) ≡ 899

@@ -1,0 +1,117 @@
+// A whole record read off an image, and stored as one.
+ghost use mathlib.Core.Path.{_≡_};
+ghost use mathlib.Core.List.{_++_};
+ghost use lib.ListN.{length, take, drop};
+ghost use Rattle.image.specs.Image.{ballot-at, image-bytes, image-of, stations-in, ballots-in};
+ghost use Rattle.whole_image.specs.Whole.{read-record, stored-number, stored};
+use entry::entry::BALLOT_ENTRIES;
+use entry::entry::STATION_ENTRIES;
+use image::ballot::ballot_from;
+use image::ballot::write_ballot;
+use image::layout::BALLOT_WIDTH;
+use image::layout::BALLOTS;
+use image::layout::IMAGE_BYTES;
+use image::layout::STATION_WIDTH;
+use image::layout::STATIONS;
+use image::layout::VERSION;
+use image::station::station_from;
+use image::station::write_station;
+use image::unread::no_image;
+use settlement::open::open;
+use settlement::record::Outcome;
+use settlement::record::Settlement;
+
+// The record with the stations of the image.
+fn with_stations(r: Settlement, image: &[u8]) -> Settlement
+    requires { ⌜ length (now image) ≡ image-bytes ⌝ }
+    ensures { λ x. ⌜ x ≡ record { count = r .count; rule = r .rule; stations = stations-in (now (image .entry)); ballots = r .ballots } ⌝ }
+{
+    let mut next = r;
+    let mut s: u8 = 0;
+    while s < STATION_ENTRIES {
+        let i = s as usize;
+        let t = station_from(&image[STATIONS + STATION_WIDTH * i..]);
+        next.stations[i] = t;
+        s += 1;
+    }
+    next
+}
+
+// The record with the ballots of the image.
+fn with_ballots(r: Settlement, image: &[u8]) -> Settlement
+    requires { ⌜ length (now image) ≡ image-bytes ⌝ }
+    ensures { λ x. ⌜ x ≡ record { count = r .count; rule = r .rule; stations = r .stations; ballots = ballots-in (now (image .entry)) } ⌝ }
+{
+    let mut next = r;
+    let mut k: usize = 0;
+    while k < BALLOT_ENTRIES {
+        let t = ballot_from(&image[BALLOTS + BALLOT_WIDTH * k..]);
+        next.ballots[k] = t;
+        k += 1;
+    }
+    next
+}
+
+// The record of an image, and 0; where the bytes are none, their number and the blank settlement.
+pub fn read_record(image: &[u8]) -> Outcome
+    ensures { λ x. ⌜ x ≡ read-record (now (image .entry)) ⌝ }
+{
+    let number = no_image(image);
+    let blank = open(0, 1);
+    let mut r = blank.settlement;
+    if number != 0 {
+        return Outcome {
+            number,
+            settlement: r,
+        };
+    }
+    r.count = image[1];
+    r.rule = image[2];
+    Outcome {
+        number,
+        settlement: with_ballots(with_stations(r, image), image),
+    }
+}
+
+// The version, the record's numbers and its stations stored.
+fn store_stations(image: &mut [u8], r: Settlement)
+    requires { ⌜ length (now image) ≡ image-bytes ⌝ }
+    ensures { λ _. ⌜ now (image .exit) ≡ take (ballot-at 0) (image-of r) ++ drop (ballot-at 0) (now (image .entry)) ⌝ }
+{
+    image[0] = VERSION;
+    image[1] = r.count;
+    image[2] = r.rule;
+    let mut s: u8 = 0;
+    while s < STATION_ENTRIES {
+        let i = s as usize;
+        let t = r.stations[i];
+        write_station(&mut image[STATIONS + STATION_WIDTH * i..], t);
+        s += 1;
+    }
+}
+
+// The ballots stored after them.
+fn store_ballots(image: &mut [u8], r: Settlement)
+    requires { ⌜ length (now image) ≡ image-bytes ⌝ }
+    ensures { λ _. ⌜ now (image .exit) ≡ take (ballot-at 0) (now (image .entry)) ++ drop (ballot-at 0) (image-of r) ⌝ }
+{
+    let mut k: usize = 0;
+    while k < BALLOT_ENTRIES {
+        let t = r.ballots[k];
+        write_ballot(&mut image[BALLOTS + BALLOT_WIDTH * k..], t);
+        k += 1;
+    }
+}
+
+// The record stored as an image, and the number of what made it; in a buffer of another length nothing, and 80.
+pub fn store_record(image: &mut [u8], r: Settlement, number: u8) -> u8
+    ensures { λ x. ⌜ x ≡ stored-number (now (image .entry)) number ⌝ }
+    ensures { λ _. ⌜ now (image .exit) ≡ stored (now (image .entry)) r ⌝ }
+{
+    if image.len() != IMAGE_BYTES {
+        return 80;
+    }
+    store_stations(image, r);
+    store_ballots(image, r);
+    number
+}
