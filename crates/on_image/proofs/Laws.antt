@@ -1,0 +1,38 @@
+-- Two entries stored in an image are the image of the record with both; bytes that are no image are turned away first. Assumes nothing.
+use Prim.Native.Nat.{ℕ, _<_}
+use mathlib.Core.Path.{_≡_, refl, sym, ap, _∙_}
+use mathlib.Core.Bool.{cond}
+use mathlib.Core.List.{List}
+use borrow.Author.Tests.{ne-eqb}
+use lib.Dec.{eqb}
+use lib.ListN.{length, length-set}
+use Rattle.basics.specs.Bytes.{In-bytes, over}
+use Rattle.entry.specs.declared.entry.Station.{Station}
+use Rattle.entry.specs.declared.entry.Ballot.{Ballot}
+use Rattle.consensus.specs.Events.{Event}
+use Rattle.settlement.specs.Record.{with-station, with-ballot}
+use Rattle.settlement.specs.Events.{played}
+use Rattle.image.specs.Entries.{station-bytes, ballot-bytes}
+use Rattle.image.specs.Image.{station-at, ballot-at, image-of, record-in, no-image}
+use Rattle.image.proofs.Image.{is-image, stations-in, ballots-in, image-again, station-stored, ballot-stored}
+use Rattle.on_image.specs.Events.{number-on, image-after}
+
+pub two-stored : (b : List ℕ) → no-image b ≡ 0 → In-bytes b → (i : ℕ) (t : Station) (k : ℕ) (u : Ballot) → i < 32 → k < 64
+    → over (ballot-at k) (ballot-bytes u) (over (station-at i) (station-bytes t) b) ≡ image-of (with-ballot k u (with-station i t (record-in b)))
+two-stored b an in-bytes i t k u hi hk =
+    let r = record-in b in
+    let whole : image-of r ≡ b = image-again b (is-image b an) in-bytes in
+    let first : image-of (with-station i t r) ≡ over (station-at i) (station-bytes t) b =
+        station-stored r (stations-in b) i t hi ∙ ap (λ (l : List ℕ). over (station-at i) (station-bytes t) l) whole in
+    sym (ballot-stored (with-station i t r) (length-set (r .stations) i t ∙ stations-in b) (ballots-in b) k u hk
+    ∙ ap (λ (l : List ℕ). over (ballot-at k) (ballot-bytes u) l) first)
+
+module _ (b : List ℕ) (e : Event) where
+  pub no-image-first : (no-image b ≡ 0 → ⊥) → (no-image b ≡ number-on b e) × (b ≡ image-after b e)
+  unfolding number-on image-after
+  no-image-first n = (rw (ne-eqb (no-image b) 0 n), rw (ne-eqb (no-image b) 0 n, ne-eqb (no-image b) 0 n))
+
+  pub on-image : no-image b ≡ 0 → (played (record-in b) e .number ≡ number-on b e)
+      × (cond (eqb (played (record-in b) e .number) 0) (image-of (played (record-in b) e .settlement)) b ≡ image-after b e)
+  unfolding number-on image-after
+  on-image z = (rw z, rw z)

@@ -1,0 +1,3 @@
+-- Laws that belong to no one function.
+--     Laws      two entries stored, and bytes that are no image
+pub mod Laws

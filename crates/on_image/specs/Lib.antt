@@ -1,0 +1,5 @@
+-- What the crate `on_image` is about, as a reader must believe it: an image that the caller lends.
+--     Events    the five events
+--     Look      LOOK, at one station and at all
+pub mod Events
+pub mod Look
