@@ -7,7 +7,7 @@ use crate::subject::{Parts, Subject};
 use crate::text;
 use std::collections::BTreeMap;
 
-/// A difference is told in words, with the log in hex.
+/// A difference is told in words, with the input in hex.
 pub type Checked = Result<(), String>;
 
 /// Comparisons of READ and PUT have columns of their own.
@@ -29,9 +29,9 @@ pub struct Judge<'a> {
 }
 
 /// Bytes around a lent buffer, and in it at first.
-const GUARD: usize = 24;
+pub const GUARD: usize = 24;
 
-fn pattern(count: usize) -> Vec<u8> {
+pub fn pattern(count: usize) -> Vec<u8> {
     (0..count).map(|i| (i * 37 + 11) as u8).collect()
 }
 
@@ -40,20 +40,20 @@ pub fn hex(bytes: &[u8]) -> String {
 }
 
 /// Fails where the subject's answer is not the model's.
-fn same<T: PartialEq + std::fmt::Debug>(what: &str, log: &[u8], model: T, subject: T) -> Checked {
+pub fn same<T: PartialEq + std::fmt::Debug>(what: &str, input: &[u8], model: T, subject: T) -> Checked {
     if model == subject {
         return Ok(());
     }
-    let log = hex(log);
-    Err(format!("{what}\n  the model:   {model:?}\n  the subject: {subject:?}\n  log: {log}"))
+    let input = hex(input);
+    Err(format!("{what}\n  the model:   {model:?}\n  the subject: {subject:?}\n  input: {input}"))
 }
 
 /// The same for all the bytes of a buffer, guards included.
-fn same_bytes(what: &str, log: &[u8], model: &[u8], subject: &[u8]) -> Checked {
+pub fn same_bytes(what: &str, input: &[u8], model: &[u8], subject: &[u8]) -> Checked {
     if model == subject {
         return Ok(());
     }
-    same(what, log, hex(model), hex(subject))
+    same(what, input, hex(model), hex(subject))
 }
 
 impl<'a> Judge<'a> {

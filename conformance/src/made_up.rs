@@ -106,32 +106,50 @@ fn head(rng: &mut Rng) -> (u8, u8) {
     }
 }
 
-/// A record, sound or with one part at an edge, and what is played on it.
-fn made_up(rng: &mut Rng, script: &mut Script, counts: &mut Counts) {
+/// A record, sound or with parts at an edge. Entries past its stations may be broken, which is no fault.
+pub fn record(rng: &mut Rng) -> Record {
     let (n, rule) = head(rng);
-    call(script, counts, Command::MakeHead { n, rule });
-    let stations = n.clamp(1, 31) + 1;
-    for s in 0..stations.min(32) {
+    let mut record = Record { n, rule, ..Record::blank() };
+    for (s, entry) in (0..32).zip(&mut record.stations) {
         let station = sound(rng, n, rule);
-        let station = if s < n { station } else { broken(rng, n, station) };
-        call(script, counts, Command::MakeStation(s, station));
+        *entry = if s < n { station } else { broken(rng, n, station) };
     }
-    for b in 0..64 {
+    for (b, entry) in record.ballots.iter_mut().enumerate() {
         if rng.chance(if rule == 1 && b > 6 { 2 } else { 40 }) {
-            let ballot = ballot(rng);
-            call(script, counts, Command::MakeBallot(b, ballot));
+            *entry = ballot(rng);
         }
     }
     for _ in 0..rng.below(3) * rng.below(2) {
-        let s = rng.byte() % stations.min(32);
-        let station = broken(rng, n, script.record.stations[usize::from(s)]);
-        call(script, counts, Command::MakeStation(s, station));
+        break_one(rng, &mut record);
+    }
+    record
+}
+
+/// One part of one entry, at times past the last station, is set at or past its edge.
+pub fn break_one(rng: &mut Rng, record: &mut Record) {
+    let s = rng.below(usize::from(record.n.clamp(1, 31)) + 1);
+    record.stations[s] = broken(rng, record.n, record.stations[s]);
+}
+
+/// What differs from the last record is made up, and events are played on it.
+fn made_up(rng: &mut Rng, script: &mut Script, counts: &mut Counts) {
+    let Record { n, rule, stations, ballots } = record(rng);
+    call(script, counts, Command::MakeHead { n, rule });
+    for (s, station) in (0..32).zip(stations) {
+        if station != script.record.stations[usize::from(s)] {
+            call(script, counts, Command::MakeStation(s, station));
+        }
+    }
+    for (b, ballot) in (0..64).zip(ballots) {
+        if ballot != script.record.ballots[usize::from(b)] {
+            call(script, counts, Command::MakeBallot(b, ballot));
+        }
     }
     play(rng, script, counts);
 }
 
 /// Any event around the ranges, most often a STEP.
-fn event(rng: &mut Rng, record: &Record) -> Event {
+pub fn event(rng: &mut Rng, record: &Record) -> Event {
     let n = usize::from(record.n);
     let (any, near, edge) = (rng.byte(), rng.below(n.max(1)) as u8, rng.below(n + 2) as u8);
     let s = rng.pick(&[near, near, near, near, near, near, edge, edge, any]);

@@ -2,6 +2,7 @@
 
 use crate::log::{run, Counts};
 use crate::model::{Play, Stage};
+use crate::record::{self, Record};
 
 /// The longest log that is played, and the most events.
 pub const MOST: usize = 65_536;
@@ -46,5 +47,31 @@ fn stage_name(stage: Stage) -> &'static str {
         Stage::Awaiting(_) => "awaiting",
         Stage::Seeking => "seeking",
         Stage::Decided => "decided",
+    }
+}
+
+/// The same lines for a record, whoever wrote it.
+pub fn of_record(record: &Record, counts: Counts) -> String {
+    let first = first_line(record.n, record.rule, record.ballot_count(), counts);
+    let stations = (0..record.n).map(|s| entry_line(record, s));
+    std::iter::once(first).chain(stations).collect()
+}
+
+fn entry_line(record: &Record, s: u8) -> String {
+    let (station, look) = (record.stations[usize::from(s)], record.look(s));
+    let decision = if look.decided { look.claim.to_string() } else { "-".to_string() };
+    let mark = if station.lost { "lost" } else { "live" };
+    format!("{s} {} {decision} votes {} {mark}\n", entry_stage(station.stage), look.votes)
+}
+
+fn entry_stage(stage: record::Stage) -> &'static str {
+    use record::Stage::*;
+    match stage {
+        Idle => "idle",
+        Waiting => "waiting",
+        Voting | VotingFinish => "voting",
+        Awaiting | AwaitingFinish => "awaiting",
+        Seeking => "seeking",
+        Decided => "decided",
     }
 }

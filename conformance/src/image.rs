@@ -1,0 +1,150 @@
+//! A settlement as bytes, read from its table alone: which bytes are an image, of which record, and what each operation on
+//! them has to leave and to answer. The record's own rules are those of `record.rs`.
+
+use crate::log::Counts;
+use crate::model::Event;
+use crate::record::{Ballot, Look, Record, Station, STAGES};
+use crate::text;
+
+pub const BYTES: usize = 899;
+pub const VERSION: u8 = 1;
+/// Where the entries begin, and the bytes of one.
+pub const STATIONS: usize = 3;
+pub const STATION: usize = 20;
+pub const BALLOTS: usize = 643;
+pub const BALLOT: usize = 4;
+
+/// No image: another length, another version; a byte that no record has.
+pub const LENGTH: u8 = 80;
+pub const OTHER_VERSION: u8 = 81;
+pub const FAULTY: u8 = 42;
+
+pub fn encode(record: &Record) -> Vec<u8> {
+    let mut bytes = vec![VERSION, record.n, record.rule];
+    bytes.extend(record.stations.iter().flat_map(station_bytes));
+    bytes.extend(record.ballots.iter().flat_map(ballot_bytes));
+    bytes
+}
+
+/// Stage, lost, cursor, round; held, claim, word and decision, high byte first.
+fn station_bytes(station: &Station) -> Vec<u8> {
+    let Station { stage, lost, cursor, round, held, claim, word, decision } = *station;
+    let number = STAGES.iter().position(|other| *other == stage).expect("one of the stages");
+    let mut bytes = vec![number as u8, u8::from(lost), cursor, round];
+    bytes.extend([held, claim, word, decision].iter().flat_map(|x| x.to_be_bytes()));
+    bytes
+}
+
+/// 0 was cast, 1 was cast, answered, the answer.
+fn ballot_bytes(ballot: &Ballot) -> [u8; BALLOT] {
+    let Ballot { cast, answered, answer } = *ballot;
+    [cast[0], cast[1], answered, answer].map(u8::from)
+}
+
+/// The record whose image this is, or the number of what is no image.
+pub fn decode(bytes: &[u8]) -> Result<Record, u8> {
+    if bytes.len() != BYTES {
+        return Err(LENGTH);
+    }
+    if bytes[0] != VERSION {
+        return Err(OTHER_VERSION);
+    }
+    let stations: Option<Vec<Station>> = bytes[STATIONS..BALLOTS].chunks(STATION).map(read_station).collect();
+    let ballots: Option<Vec<Ballot>> = bytes[BALLOTS..].chunks(BALLOT).map(read_ballot).collect();
+    Ok(Record {
+        n: bytes[1],
+        rule: bytes[2],
+        stations: stations.ok_or(FAULTY)?.try_into().expect("32 stations"),
+        ballots: ballots.ok_or(FAULTY)?.try_into().expect("64 ballots"),
+    })
+}
+
+fn read_mark(byte: u8) -> Option<bool> {
+    [false, true].get(usize::from(byte)).copied()
+}
+
+fn read_station(bytes: &[u8]) -> Option<Station> {
+    let number = |i: usize| bytes[i..i + 4].iter().fold(0, |x, byte| 256 * x + u32::from(*byte));
+    Some(Station {
+        stage: *STAGES.get(usize::from(bytes[0]))?,
+        lost: read_mark(bytes[1])?,
+        cursor: bytes[2],
+        round: bytes[3],
+        held: number(4),
+        claim: number(8),
+        word: number(12),
+        decision: number(16),
+    })
+}
+
+fn read_ballot(bytes: &[u8]) -> Option<Ballot> {
+    let cast = [read_mark(bytes[0])?, read_mark(bytes[1])?];
+    Some(Ballot { cast, answered: read_mark(bytes[2])?, answer: read_mark(bytes[3])? })
+}
+
+/// What every operation tests first: the image, then 01's record test.
+pub fn tested(image: &[u8]) -> Result<Record, u8> {
+    let record = decode(image)?;
+    match record.is_faulty() {
+        true => Err(FAULTY),
+        false => Ok(record),
+    }
+}
+
+/// OPEN: its number, and the bytes afterwards.
+pub fn open(image: &[u8], n: u8, rule: u8) -> (u8, Vec<u8>) {
+    if image.len() != BYTES {
+        return (LENGTH, image.to_vec());
+    }
+    let (number, record) = Record::open(n, rule);
+    (number, encode(&record))
+}
+
+/// An event: its number, and the bytes afterwards.
+pub fn event(image: &[u8], event: Event) -> (u8, Vec<u8>) {
+    let mut record = match decode(image) {
+        Ok(record) => record,
+        Err(number) => return (number, image.to_vec()),
+    };
+    match record.event(event) {
+        0 => (0, encode(&record)),
+        number => (number, image.to_vec()),
+    }
+}
+
+/// The eight bytes of LOOK's answer: number, decided, votes, 0, the claim.
+pub fn look_bytes(look: Look) -> [u8; 8] {
+    let [a, b, c, d] = look.claim.to_be_bytes();
+    [look.number, u8::from(look.decided), look.votes, 0, a, b, c, d]
+}
+
+pub fn look(image: &[u8], s: u8) -> [u8; 8] {
+    let refused = |number| Look { number, decided: false, claim: 0, votes: 0 };
+    look_bytes(decode(image).map_or_else(refused, |record| record.look(s)))
+}
+
+/// LOOK at every station: the answers, or the number. They need a room of so many bytes.
+pub fn look_all(image: &[u8], room: usize) -> Result<Vec<u8>, u8> {
+    let record = tested(image)?;
+    match room < 8 * usize::from(record.n) {
+        true => Err(30),
+        false => Ok((0..record.n).flat_map(|s| look_bytes(record.look(s))).collect()),
+    }
+}
+
+/// The text of an image: with these numbers, or the blank settlement's with the number of what is refused.
+pub fn report(image: &[u8], counts: Counts) -> String {
+    match tested(image) {
+        Ok(record) => text::of_record(&record, counts),
+        Err(status) => text::of_record(&Record::blank(), Counts { events: 0, taken: 0, status }),
+    }
+}
+
+/// RUN: its status, and the bytes afterwards.
+pub fn play(log: &[u8], limit: usize, image: &[u8]) -> (u8, Vec<u8>) {
+    if image.len() != BYTES {
+        return (LENGTH, image.to_vec());
+    }
+    let (record, counts) = Record::run(log, limit);
+    (counts.status, encode(&record))
+}

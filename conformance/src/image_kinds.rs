@@ -1,0 +1,321 @@
+//! The images and logs that are compared: random, made up, changed in one place, and reached from an opening.
+
+use crate::generate::{self, accepted, Rng};
+use crate::image::{self, BALLOT, BALLOTS, BYTES, STATION, STATIONS, VERSION};
+use crate::image_judge::ImageJudge;
+use crate::image_lists::List;
+use crate::image_rows;
+use crate::judge::{same, same_bytes, Checked};
+use crate::log::{self, Counts};
+use crate::made_up;
+use crate::model::{Event, Play};
+use crate::record::{Record, Stage};
+
+const KINDS: [fn(&mut ImageJudge, &mut Rng) -> Checked; 11] = [
+    |judge, _| image_rows::check(judge),
+    openings,
+    other_lengths,
+    any_bytes,
+    made_up_records,
+    last_ballots,
+    one_byte,
+    every_place,
+    short_lists,
+    settlements,
+    logs,
+];
+
+pub fn compare(judge: &mut ImageJudge, rng: &mut Rng) -> Checked {
+    KINDS.iter().try_for_each(|kind| kind(judge, rng))
+}
+
+// ---- one image through every operation
+
+/// Station and ballot numbers around the ranges, most of them there.
+fn five_events(rng: &mut Rng, n: u8) -> [Event; 5] {
+    let any = rng.byte();
+    let number = |rng: &mut Rng| match rng.below(12) {
+        0 => rng.pick(&[n, n.saturating_add(1), 31, 32, 255, any]),
+        _ => rng.below(usize::from(n).clamp(1, 32)) as u8,
+    };
+    let (s, t) = (number(rng), number(rng));
+    let b = rng.pick(&[0, 0, 1, 1, 2, 3, 4, 5, 62, 63, 64, any]);
+    [
+        Event::Claim { s, v: rng.next() as u32 },
+        Event::Deliver { t, s: number(rng) },
+        Event::Step { s: number(rng) },
+        Event::Lose { s: number(rng) },
+        Event::Answer { b, a: rng.pick(&[0, 1, 0, 1, 0, 1, 2, any]) },
+    ]
+}
+
+fn any_counts(rng: &mut Rng) -> Counts {
+    let (events, taken) = (rng.next() as usize, rng.next() as usize);
+    Counts {
+        events: rng.pick(&[0, 9, 10, 65_536, events, usize::MAX]),
+        taken: taken >> rng.below(64),
+        status: rng.byte(),
+    }
+}
+
+/// The five events, LOOK, LOOK at all and the report; and the model's own way there and back.
+fn through(judge: &mut ImageJudge, rng: &mut Rng, image: &[u8]) -> Checked {
+    let n = image.get(1).copied().unwrap_or(0);
+    for event in five_events(rng, n) {
+        judge.event(image, event)?;
+    }
+    looked_at(judge, rng, image, n)?;
+    match image::decode(image) {
+        Ok(record) => same_bytes("the image of its record", image, image, &image::encode(&record)),
+        Err(_) => Ok(()),
+    }
+}
+
+fn looked_at(judge: &mut ImageJudge, rng: &mut Rng, image: &[u8], n: u8) -> Checked {
+    let (any, size) = (rng.byte(), 8 * usize::from(n));
+    judge.look(image, rng.pick(&[0, n.wrapping_sub(1), n, any, any % 32, any % 32, any % 4]))?;
+    judge.look_all(image, rng.pick(&[size, size, size.saturating_sub(1), size + 1, 0, 255, 256, 300]))?;
+    judge.report(image, any_counts(rng)).map(drop)
+}
+
+// ---- kinds of images
+
+/// Every n with rules good and bad, over bytes of any length.
+fn openings(judge: &mut ImageJudge, rng: &mut Rng) -> Checked {
+    for n in 0..=255 {
+        for rule in [0, 1, 2, 3, 4, 255] {
+            judge.open(&rng.bytes(BYTES), n, rule)?;
+            let size = rng.pick(&[0, 1, 2, 3, 643, 898, 900, 2000]);
+            judge.open(&rng.bytes(size), n, rule)?;
+        }
+    }
+    for _ in 0..1500 {
+        let n = generate::stations(rng);
+        for rule in [1, 2, rng.pick(&[0, 3, 255])] {
+            judge.open(&rng.bytes(BYTES), n, rule)?;
+        }
+    }
+    Ok(())
+}
+
+/// A good image cut short or made longer, and bytes of any length.
+fn other_lengths(judge: &mut ImageJudge, rng: &mut Rng) -> Checked {
+    for _ in 0..900 {
+        let any = rng.below(2000);
+        let size = rng.pick(&[0, 1, 2, 3, 4, 23, 643, 897, 898, 900, 901, 1798, any]);
+        let mut image = image::encode(&made_up::record(rng));
+        image.resize(size, rng.byte());
+        through(judge, rng, &image)?;
+        through(judge, rng, &rng.clone().bytes(size))?;
+    }
+    Ok(())
+}
+
+/// Bytes of the right length: any; with the right version; with stages and marks that exist; with a head of stations too.
+fn any_bytes(judge: &mut ImageJudge, rng: &mut Rng) -> Checked {
+    for _ in 0..1500 {
+        let mut image = rng.bytes(BYTES);
+        through(judge, rng, &image)?;
+        image[0] = VERSION;
+        through(judge, rng, &image)?;
+        image[STATIONS..BALLOTS]
+            .chunks_mut(STATION)
+            .for_each(|entry| (entry[0], entry[1]) = (entry[0] % 8, entry[1] % 2));
+        image[BALLOTS..].iter_mut().for_each(|mark| *mark %= 2);
+        through(judge, rng, &image)?;
+        (image[1], image[2]) = (rng.pick(&[1, 1, 2, 3, 8]), rng.pick(&[1, 2]));
+        through(judge, rng, &image)?;
+        image[STATIONS..BALLOTS].chunks_mut(STATION).for_each(|entry| entry[2] = 0);
+        through(judge, rng, &image)?;
+    }
+    Ok(())
+}
+
+/// Records made up around every clause of the record test, and events that are played on from there.
+fn made_up_records(judge: &mut ImageJudge, rng: &mut Rng) -> Checked {
+    for _ in 0..4000 {
+        let record = made_up::record(rng);
+        let mut image = image::encode(&record);
+        same("the record of its image", &image, Ok(record), image::decode(&image))?;
+        through(judge, rng, &image)?;
+        for _ in 0..rng.below(30) {
+            let record = image::decode(&image).map_err(|number| format!("the model's own image gives {number}"))?;
+            image = judge.event(&image, made_up::event(rng, &record))?.1;
+        }
+        through(judge, rng, &image)?;
+    }
+    Ok(())
+}
+
+/// A station that awaits one of the last finish ballots, which is answered or not.
+fn last_ballots(judge: &mut ImageJudge, rng: &mut Rng) -> Checked {
+    for _ in 0..4000 {
+        let mut record = Record { n: generate::stations(rng), rule: 2, ..made_up::record(rng) };
+        let (s, round) = (rng.below(usize::from(record.n)), rng.pick(&[30, 31, 31]));
+        record.stations.iter_mut().for_each(|station| station.cursor = 0);
+        let station = &mut record.stations[s];
+        (station.stage, station.round, station.lost) = (Stage::AwaitingFinish, round, false);
+        let ballot = &mut record.ballots[2 * usize::from(round) + 1];
+        (ballot.answered, ballot.answer) = (rng.chance(90), rng.chance(20));
+        judge.event(&image::encode(&record), Event::Step { s: s as u8 })?;
+    }
+    Ok(())
+}
+
+/// A record reached from an opening, or a made-up one.
+fn some_record(rng: &mut Rng) -> Record {
+    if rng.chance(50) {
+        return made_up::record(rng);
+    }
+    let (n, rule) = opening(rng);
+    let events = random_list(rng, n, rule, 200);
+    Record::run(&log::written(n, rule, &accepted(n, rule, &events)), usize::MAX).0
+}
+
+/// One byte of a good image changed, or one entry.
+fn one_byte(judge: &mut ImageJudge, rng: &mut Rng) -> Checked {
+    for _ in 0..1500 {
+        let record = some_record(rng);
+        let mut image = image::encode(&record);
+        let any = rng.byte();
+        let used = BALLOTS.min(STATIONS + STATION * usize::from(record.n));
+        let place = rng.pick(&[0, 1, 2, rng.clone().below(used), rng.clone().below(BYTES)]);
+        image[place] = rng.pick(&[0, 1, 2, 3, 5, 7, 8, 31, 32, 33, 255, any]);
+        through(judge, rng, &image)?;
+        let mut broken = record;
+        made_up::break_one(rng, &mut broken);
+        through(judge, rng, &image::encode(&broken))?;
+    }
+    Ok(())
+}
+
+/// One bit changed at each place of a few images.
+fn every_place(judge: &mut ImageJudge, rng: &mut Rng) -> Checked {
+    for (n, rule, most) in [(1, 2, 9), (2, 1, 12), (3, 2, 60), (8, 1, 150), (17, 2, 600), (32, 1, 2000), (32, 2, 4000)]
+    {
+        let events = random_list(rng, n, rule, most);
+        let record = Record::run(&log::written(n, rule, &accepted(n, rule, &events)), usize::MAX).0;
+        let image = image::encode(&record);
+        (0..BYTES).try_for_each(|place| one_place(judge, rng, &image, place))?;
+    }
+    Ok(())
+}
+
+fn one_place(judge: &mut ImageJudge, rng: &mut Rng, image: &[u8], place: usize) -> Checked {
+    for bit in 0..8 {
+        let mut changed = image.to_vec();
+        changed[place] ^= 1 << bit;
+        for event in near(rng, image[1], place) {
+            judge.event(&changed, event)?;
+        }
+        judge.look(&changed, rng.byte() % image[1])?;
+    }
+    let mut changed = image.to_vec();
+    changed[place] ^= 1 << rng.below(8);
+    looked_at(judge, rng, &changed, image[1])
+}
+
+/// Five events, of the station or the ballot that the place belongs to where there is one.
+fn near(rng: &mut Rng, n: u8, place: usize) -> [Event; 5] {
+    let s = (place.saturating_sub(STATIONS) / STATION) as u8;
+    let b = (place.saturating_sub(BALLOTS) / BALLOT) as u8;
+    let [claim, deliver, step, lose, answer] = five_events(rng, n);
+    match (s < n, place >= BALLOTS) {
+        (true, _) => {
+            let v = rng.next() as u32;
+            [
+                Event::Claim { s, v },
+                Event::Deliver { t: s, s: rng.byte() % n },
+                Event::Step { s },
+                Event::Lose { s },
+                answer,
+            ]
+        }
+        (_, true) => [claim, deliver, step, lose, Event::Answer { b, a: rng.byte() % 2 }],
+        _ => [claim, deliver, step, lose, answer],
+    }
+}
+
+// ---- lists and logs
+
+/// A random opening that is accepted.
+fn opening(rng: &mut Rng) -> (u8, u8) {
+    (generate::stations(rng), rng.pick(&[1, 2]))
+}
+
+/// A random list with refused events.
+fn random_list(rng: &mut Rng, n: u8, rule: u8, most: usize) -> Vec<Event> {
+    let play = Play::open(n, rule).expect("a valid opening");
+    let mix = generate::mix(rng, n);
+    generate::list(rng, play, &mix, most)
+}
+
+/// Lists beside their histories and logs, after every event.
+fn short_lists(judge: &mut ImageJudge, rng: &mut Rng) -> Checked {
+    for _ in 0..500 {
+        let (n, rule) = opening(rng);
+        let mut list = List::open(judge, &rng.bytes(BYTES), n, rule)?;
+        for event in random_list(rng, n, rule, 60) {
+            list.event(judge, event, true)?;
+        }
+    }
+    Ok(())
+}
+
+/// Lists that mostly end settled, beside their histories and logs now and then.
+fn settlements(judge: &mut ImageJudge, rng: &mut Rng) -> Checked {
+    for _ in 0..60 {
+        let (n, rule) = opening(rng);
+        let mut list = List::open(judge, &rng.bytes(BYTES), n, rule)?;
+        let events = random_list(rng, n, rule, 6000);
+        let last = events.len().saturating_sub(1);
+        for (i, event) in events.into_iter().enumerate() {
+            list.event(judge, event, i % 101 == 0 || i == last)?;
+        }
+    }
+    Ok(())
+}
+
+/// Logs with notes, damaged ones and any bytes, with limits, into images of any length.
+fn logs(judge: &mut ImageJudge, rng: &mut Rng) -> Checked {
+    for _ in 0..4000 {
+        let (n, rule) = opening(rng);
+        let events = random_list(rng, n, rule, 60);
+        let log = generate::with_notes(rng, n, rule, &accepted(n, rule, &events));
+        let limit = rng.pick(&[rng.clone().below(60), usize::MAX]);
+        judge.play(&log, limit, BYTES)?;
+        for _ in 0..4 {
+            judge.play(&generate::damaged(rng, &log), limit, BYTES)?;
+        }
+        one_event_more(judge, rng, n, rule, &events)?;
+        bad_openings(judge, rng, &log)?;
+        judge.play(&log, limit, rng.pick(&[0, 1, 643, 898, 900, 2000]))?;
+    }
+    Ok(())
+}
+
+/// A log that begins with any bytes, with an opening that is refused, with another field, or twice.
+fn bad_openings(judge: &mut ImageJudge, rng: &mut Rng, log: &[u8]) -> Checked {
+    judge.play(&generate::any_bytes(rng), usize::MAX, BYTES)?;
+    for (n, rule) in [(rng.byte(), 1 + rng.byte() % 2), (1 + rng.byte() % 32, rng.byte())] {
+        judge.play(&[1, 0, 2, n, rule], usize::MAX, BYTES)?;
+    }
+    judge.play(&log[..rng.below(3)], usize::MAX, BYTES)?;
+    judge.play(&log[5..], usize::MAX, BYTES)?;
+    judge.play(&[&log[..5], log].concat(), usize::MAX, BYTES).map(drop)
+}
+
+/// The accepted events, and after them one that may be refused.
+fn one_event_more(judge: &mut ImageJudge, rng: &mut Rng, n: u8, rule: u8, events: &[Event]) -> Checked {
+    let accepted = accepted(n, rule, events);
+    let play = accepted.iter().fold(Play::open(n, rule).expect("a valid opening"), |mut play, &event| {
+        play.event(event);
+        play
+    });
+    let answered = play.answers.keys().next().map(|&b| Event::Answer { b, a: 0 });
+    for event in five_events(rng, n).into_iter().chain([Event::Step { s: rng.byte() % n }; 3]).chain(answered) {
+        let list = [&accepted[..], &[event]].concat();
+        judge.play(&log::written(n, rule, &list), usize::MAX, BYTES)?;
+    }
+    Ok(())
+}

@@ -1,0 +1,308 @@
+//! Rows with literal bytes, written from the image's table and document 01 by hand, so that no error of `image.rs` goes through
+//! because the subject makes it too. Places: station s begins at 3 + 20 s, ballot b at 643 + 4 b.
+
+use crate::image_judge::ImageJudge;
+use crate::judge::{same, same_bytes, Checked};
+use crate::log::Counts;
+use crate::model::Event;
+
+const CLAIM: Event = Event::Claim { s: 0, v: 77 };
+const DELIVER: Event = Event::Deliver { t: 0, s: 0 };
+const STEP: Event = Event::Step { s: 0 };
+const LOSE: Event = Event::Lose { s: 0 };
+const ANSWER: Event = Event::Answer { b: 0, a: 0 };
+
+/// A byte of an image, and what it is set to.
+type Byte = (usize, u8);
+
+pub fn check(judge: &mut ImageJudge) -> Checked {
+    openings(judge)?;
+    by_station(judge)?;
+    by_claim(judge)?;
+    high_numbers(judge)?;
+    no_images(judge)?;
+    tests(judge)?;
+    last_ballot(judge)?;
+    looks(judge)?;
+    texts(judge)?;
+    logs(judge)
+}
+
+/// An image with these bytes, the others 0.
+fn image(bytes: &[Byte]) -> Vec<u8> {
+    let mut image = vec![0; 899];
+    bytes.iter().for_each(|(place, byte)| image[*place] = *byte);
+    image
+}
+
+struct Hand<'a, 'b> {
+    judge: &'a mut ImageJudge<'b>,
+    image: Vec<u8>,
+}
+
+impl Hand<'_, '_> {
+    /// An event, its number and the bytes that it sets.
+    fn event(&mut self, event: Event, number: u8, sets: &[Byte]) -> Checked {
+        let mut expected = self.image.clone();
+        sets.iter().for_each(|(place, byte)| expected[*place] = *byte);
+        let (model, after) = self.judge.event(&self.image, event)?;
+        let what = format!("{event:?} by hand");
+        same(&what, &self.image, number, model)?;
+        same_bytes(&what, &self.image, &expected, &after)?;
+        self.image = after;
+        Ok(())
+    }
+
+    fn step(&mut self, s: u8, sets: &[Byte]) -> Checked {
+        self.event(Event::Step { s }, 0, sets)
+    }
+
+    fn look(&mut self, s: u8, word: u64) -> Checked {
+        look(self.judge, &self.image, s, word)
+    }
+}
+
+fn hand<'a, 'b>(judge: &'a mut ImageJudge<'b>, bytes: &[Byte]) -> Hand<'a, 'b> {
+    Hand { judge, image: image(bytes) }
+}
+
+fn look(judge: &mut ImageJudge, image: &[u8], s: u8, word: u64) -> Checked {
+    same("LOOK by hand", image, word.to_be_bytes(), crate::image::look(image, s))?;
+    judge.look(image, s)
+}
+
+/// Every event and LOOK give this number, and each leaves every byte.
+fn refused(judge: &mut ImageJudge, image: &[u8], number: u8) -> Checked {
+    let mut hand = Hand { judge, image: image.to_vec() };
+    for event in [CLAIM, DELIVER, STEP, LOSE, ANSWER] {
+        hand.event(event, number, &[])?;
+    }
+    hand.look(0, u64::from(number) << 56)?;
+    judge.look_all(image, 256)?;
+    let text = judge.report(image, Counts { events: 7, taken: 8, status: 9 })?;
+    let due = format!("stations 0 rule 1 ballots 0 events 0 taken 0 status {number}\n");
+    same("a refused image's text by hand", image, due, text)
+}
+
+/// The record test is passed: LOSE is accepted, and sets byte 4.
+fn sound(judge: &mut ImageJudge, bytes: &[Byte]) -> Checked {
+    hand(judge, bytes).event(LOSE, 0, &[(4, 1)])
+}
+
+/// Accepted, the head and zeros; refused, the blank settlement: no stations, rule 1.
+fn openings(judge: &mut ImageJudge) -> Checked {
+    for (n, rule, head) in [
+        (2, 1, [1, 2, 1]),
+        (32, 2, [1, 32, 2]),
+        (1, 2, [1, 1, 2]),
+        (0, 1, [1, 0, 1]),
+        (33, 2, [1, 0, 1]),
+        (255, 3, [1, 0, 1]),
+        (32, 3, [1, 0, 1]),
+        (1, 0, [1, 0, 1]),
+    ] {
+        let after = judge.open(&[0xee; 899], n, rule)?;
+        let [version, n, rule] = head;
+        same_bytes("OPEN by hand", &head, &image(&[(0, version), (1, n), (2, rule)]), &after)?;
+    }
+    for size in [0, 1, 898, 900] {
+        let after = judge.open(&vec![0xee; size], 2, 1)?;
+        same_bytes("OPEN of another length", &[], &vec![0xee; size], &after)?;
+    }
+    Ok(())
+}
+
+/// Two stations by station. Station 0 is at 3: stage 3, lost 4, cursor 5, round 6, held 7, claim 11, word 15, decision 19.
+fn by_station(judge: &mut ImageJudge) -> Checked {
+    let mut hand = hand(judge, &[(0, 1), (1, 2), (2, 1)]);
+    hand.look(0, 0)?;
+    hand.event(STEP, 6, &[])?;
+    hand.event(DELIVER, 4, &[])?;
+    hand.event(Event::Claim { s: 2, v: 9 }, 1, &[])?;
+    hand.event(Event::Claim { s: 0, v: 0x0102_0304 }, 0, &[(3, 1), (11, 1), (12, 2), (13, 3), (14, 4)])?;
+    hand.event(CLAIM, 3, &[])?;
+    hand.event(STEP, 8, &[])?;
+    hand.event(Event::Claim { s: 1, v: 0xa000_0009 }, 0, &[(23, 1), (31, 0xa0), (34, 9)])?;
+    hand.event(DELIVER, 0, &[(10, 1)])?;
+    hand.event(DELIVER, 5, &[])?;
+    hand.event(Event::Deliver { t: 1, s: 0 }, 0, &[(10, 3)])?;
+    hand.event(Event::Deliver { t: 1, s: 1 }, 0, &[(30, 2)])?;
+    hand.step(0, &[(3, 2)])?;
+    hand.step(1, &[(23, 2), (25, 1)])?;
+    hand.look(1, 0)?;
+    // station 0 casts 0, station 1 casts 1; ballot 0 is at 643
+    hand.step(0, &[(3, 3), (643, 1)])?;
+    hand.event(Event::Answer { b: 0, a: 1 }, 12, &[])?;
+    hand.step(1, &[(23, 3), (644, 1)])?;
+    hand.look(1, 0x0000_0100_0000_0000)?;
+    hand.event(STEP, 8, &[])?;
+    hand.event(Event::Answer { b: 1, a: 1 }, 9, &[])?;
+    hand.event(Event::Answer { b: 0, a: 2 }, 10, &[])?;
+    hand.event(Event::Answer { b: 0, a: 1 }, 0, &[(645, 1), (646, 1)])?;
+    hand.event(ANSWER, 11, &[])?;
+    hand.step(0, &[(3, 4), (18, 1)])?;
+    // j is 1 now, its claim held and its bit 1: decided
+    hand.step(0, &[(3, 7), (5, 1), (19, 0xa0), (22, 9)])?;
+    hand.event(STEP, 7, &[])?;
+    hand.look(0, 0x0001_0100_a000_0009)?;
+    hand.event(LOSE, 0, &[(4, 1)])?;
+    hand.event(LOSE, 2, &[])?;
+    hand.look(0, 0x0001_0100_a000_0009)?;
+    hand.look(2, 0x0100_0000_0000_0000)
+}
+
+/// One station by claim, its claim 2: ballots 0 and 1, then 2 and 3, at 643, 647, 651 and 655.
+fn by_claim(judge: &mut ImageJudge) -> Checked {
+    let mut hand = hand(judge, &[(0, 1), (1, 1), (2, 2)]);
+    hand.event(Event::Claim { s: 0, v: 2 }, 0, &[(3, 1), (14, 2)])?;
+    hand.event(DELIVER, 0, &[(10, 1)])?;
+    hand.step(0, &[(3, 2)])?;
+    hand.step(0, &[(3, 3), (643, 1)])?;
+    hand.event(ANSWER, 0, &[(645, 1)])?;
+    hand.step(0, &[(3, 4)])?;
+    hand.step(0, &[(3, 5)])?;
+    hand.look(0, 0x0000_0100_0000_0000)?;
+    // the word is 0 and the claim 2: it casts 0
+    hand.step(0, &[(3, 6), (647, 1)])?;
+    hand.look(0, 0x0000_0200_0000_0000)?;
+    hand.event(Event::Answer { b: 1, a: 0 }, 0, &[(649, 1)])?;
+    hand.step(0, &[(3, 2), (6, 1)])?;
+    hand.step(0, &[(3, 3), (652, 1)])?;
+    hand.event(Event::Answer { b: 2, a: 1 }, 0, &[(653, 1), (654, 1)])?;
+    hand.step(0, &[(3, 4), (18, 2)])?;
+    hand.step(0, &[(3, 5)])?;
+    hand.step(0, &[(3, 6), (656, 1)])?;
+    hand.event(Event::Answer { b: 3, a: 1 }, 0, &[(657, 1), (658, 1)])?;
+    hand.step(0, &[(3, 7), (22, 2)])?;
+    hand.look(0, 0x0001_0400_0000_0002)
+}
+
+/// Station 31 is at 623, ballot 63 at 895. Bit 31 of held is the highest of its first byte.
+fn high_numbers(judge: &mut ImageJudge) -> Checked {
+    let mut hand = hand(judge, &[(0, 1), (1, 32), (2, 2)]);
+    let all = [(623, 1), (631, 255), (632, 255), (633, 255), (634, 255)];
+    hand.event(Event::Claim { s: 31, v: u32::MAX }, 0, &all)?;
+    hand.event(Event::Deliver { t: 31, s: 31 }, 0, &[(627, 0x80)])?;
+    hand.event(Event::Deliver { t: 31, s: 0 }, 0, &[(7, 0x80)])?;
+    hand.step(31, &[(623, 2), (625, 31)])?;
+    hand.step(31, &[(623, 3), (644, 1)])?;
+    // made up: it awaits ballot 63 with word and claim alike, and is answered 1
+    [(623, 5), (626, 31), (635, 255), (636, 255), (637, 255), (638, 255)]
+        .iter()
+        .for_each(|(place, byte)| hand.image[*place] = *byte);
+    hand.step(31, &[(623, 6), (896, 1)])?;
+    hand.event(Event::Answer { b: 63, a: 0 }, 12, &[])?;
+    hand.event(Event::Answer { b: 64, a: 0 }, 9, &[])?;
+    hand.event(Event::Answer { b: 63, a: 1 }, 0, &[(897, 1), (898, 1)])?;
+    hand.step(31, &[(623, 7), (639, 255), (640, 255), (641, 255), (642, 255)])?;
+    hand.look(31, 0x0001_4000_ffff_ffff)
+}
+
+/// Another length is seen before another version, and both before any other byte.
+fn no_images(judge: &mut ImageJudge) -> Checked {
+    for size in [0, 1, 3, 898, 900, 1798] {
+        refused(judge, &vec![1; size], 80)?;
+        refused(judge, &vec![0; size], 80)?;
+    }
+    for version in [0, 2, 42, 255] {
+        refused(judge, &image(&[(0, version), (1, 2), (2, 1)]), 81)?;
+        refused(judge, &image(&[(0, version), (1, 33), (2, 3), (3, 8), (898, 2)]), 81)?;
+    }
+    Ok(())
+}
+
+/// The head of two stations by station, and of two by claim.
+const ONE: [Byte; 3] = [(0, 1), (1, 2), (2, 1)];
+const TWO: [Byte; 3] = [(0, 1), (1, 2), (2, 2)];
+
+fn with(head: [Byte; 3], bytes: &[Byte]) -> Vec<Byte> {
+    [&head[..], bytes].concat()
+}
+
+/// Bytes that no record has, wherever they are; then 01's record test on both sides of each clause.
+fn tests(judge: &mut ImageJudge) -> Checked {
+    for faulty in [(3, 8), (3, 255), (4, 2), (4, 255), (623, 8), (624, 2), (643, 2), (644, 2), (645, 2), (646, 255)] {
+        refused(judge, &image(&with(ONE, &[faulty])), 42)?;
+    }
+    for faulty in [(895, 2), (896, 2), (897, 255), (898, 2), (5, 2), (25, 2), (25, 255), (3, 5), (3, 6), (2, 0), (2, 3)]
+    {
+        refused(judge, &image(&with(ONE, &[faulty])), 42)?;
+    }
+    for stage in [2, 3, 4] {
+        refused(judge, &image(&with(ONE, &[(3, stage), (6, 1)])), 42)?;
+        sound(judge, &with(ONE, &[(3, stage), (6, 0)]))?;
+    }
+    for stage in [2, 3, 4, 5, 6, 7] {
+        refused(judge, &image(&with(TWO, &[(3, stage), (6, 32)])), 42)?;
+        sound(judge, &with(TWO, &[(3, stage), (6, 31)]))?;
+    }
+    refused(judge, &image(&with(ONE, &[(1, 33)])), 42)?;
+    refused(judge, &image(&with(ONE, &[(1, 255)])), 42)?;
+    for free in [(5, 1), (25, 1), (45, 255), (43, 5), (6, 255), (623, 6), (898, 1), (1, 32), (1, 1)] {
+        sound(judge, &with(ONE, &[free]))?;
+    }
+    [[(3, 1), (6, 255)], [(3, 7), (6, 255)], [(23, 7), (26, 9)]]
+        .iter()
+        .try_for_each(|free| sound(judge, &with(ONE, free)))
+}
+
+/// Awaiting ballot 63, at 895, which is answered 0; with one round less it goes on.
+fn last_ballot(judge: &mut ImageJudge) -> Checked {
+    hand(judge, &with(TWO, &[(3, 6), (6, 31), (897, 1)])).event(STEP, 42, &[])?;
+    hand(judge, &with(TWO, &[(3, 6), (6, 30), (889, 1)])).event(STEP, 0, &[(3, 2), (6, 31)])?;
+    hand(judge, &with(TWO, &[(3, 6), (6, 31), (897, 1), (898, 1)])).event(STEP, 0, &[(3, 7)])
+}
+
+/// Votes by stage; the claim of a station that has not decided is 0. Then all stations at once.
+fn looks(judge: &mut ImageJudge) -> Checked {
+    for (stage, votes) in [(0, 0), (1, 0), (2, 2), (3, 3), (4, 3), (7, 3)] {
+        let bytes = [(0, 1), (1, 8), (2, 1), (3, stage), (6, 2), (22, 9)];
+        let decided = if stage == 7 { 0x0001_0000_0000_0009 } else { 0 };
+        look(judge, &image(&bytes), 0, decided | votes << 40)?;
+    }
+    for (stage, votes) in [(0, 0), (1, 0), (2, 62), (3, 63), (4, 63), (5, 63), (6, 64), (7, 64)] {
+        let bytes = with(TWO, &[(3, stage), (6, 31), (19, 9)]);
+        let decided = if stage == 7 { 0x0001_0000_0900_0000 } else { 0 };
+        look(judge, &image(&bytes), 0, decided | votes << 40)?;
+    }
+    let both = image(&with(ONE, &[(23, 7), (39, 1), (40, 2), (41, 3), (42, 4)]));
+    let due = vec![0, 0, 0, 0, 0, 0, 0, 0, 0, 1, 1, 0, 1, 2, 3, 4];
+    same("LOOK at all by hand", &both, Ok(due), crate::image::look_all(&both, 16))?;
+    same("LOOK at all by hand", &both, Err(30), crate::image::look_all(&both, 15))?;
+    [0, 1, 8, 15, 16, 17, 256].into_iter().try_for_each(|room| judge.look_all(&both, room))?;
+    judge.look_all(&image(&[(0, 1), (1, 0), (2, 2)]), 0)
+}
+
+/// The text of an image, its counts the caller's.
+fn texts(judge: &mut ImageJudge) -> Checked {
+    let bytes = image(&with(TWO, &[(3, 6), (4, 1), (6, 3), (23, 7), (26, 31), (39, 255), (42, 1)]));
+    let text = judge.report(&bytes, Counts { events: usize::MAX, taken: 0, status: 255 })?;
+    let due = "stations 2 rule 2 ballots 64 events 18446744073709551615 taken 0 status 255\n\
+               0 awaiting - votes 8 lost\n1 decided 4278190081 votes 64 live\n";
+    same("a text by hand", &bytes, due, &text)?;
+    let none = image(&[(0, 1), (1, 0), (2, 2)]);
+    let text = judge.report(&none, Counts { events: 1, taken: 2, status: 3 })?;
+    same("a text by hand", &none, "stations 0 rule 2 ballots 0 events 1 taken 2 status 3\n", &text)
+}
+
+/// OPEN 2, 1; CLAIM 1 9; LOSE 0; LOSE 0, as a log. No opening: the blank settlement.
+fn logs(judge: &mut ImageJudge) -> Checked {
+    let log = [1, 0, 2, 2, 1, 0x10, 0, 5, 1, 0, 0, 0, 9, 0x13, 0, 1, 0, 0x13, 0, 1, 0];
+    let claimed = with(ONE, &[(23, 1), (34, 9)]);
+    let lost = [&claimed[..], &[(4, 1)]].concat();
+    for (log, limit, status, bytes) in [
+        (&log[..], usize::MAX, 2, &lost),
+        (&log, 2, 26, &lost),
+        (&log[..17], 2, 0, &lost),
+        (&log, 1, 26, &claimed),
+        (&log[..5], 0, 0, &ONE.to_vec()),
+        (&log[..4], 0, 23, &vec![(0, 1), (2, 1)]),
+        (&log[5..], 9, 24, &vec![(0, 1), (2, 1)]),
+        (&[], 9, 20, &vec![(0, 1), (2, 1)]),
+    ] {
+        let (told, after) = judge.play(log, limit, 899)?;
+        same("RUN by hand", log, status, told)?;
+        same_bytes("RUN's image by hand", log, &image(bytes), &after)?;
+    }
+    [0, 898, 900].into_iter().try_for_each(|size| judge.play(&log, 9, size).map(drop))
+}
