@@ -131,14 +131,12 @@ pub fn break_one(rng: &mut Rng, record: &mut Record) {
     record.stations[s] = broken(rng, record.n, record.stations[s]);
 }
 
-/// What differs from the last record is made up, and events are played on it.
+/// The stations and one more, and what differs of the ballots, are made up; events are played on them.
 fn made_up(rng: &mut Rng, script: &mut Script, counts: &mut Counts) {
     let Record { n, rule, stations, ballots } = record(rng);
     call(script, counts, Command::MakeHead { n, rule });
-    for (s, station) in (0..32).zip(stations) {
-        if station != script.record.stations[usize::from(s)] {
-            call(script, counts, Command::MakeStation(s, station));
-        }
+    for (s, station) in (0..=n.clamp(1, 31)).zip(stations) {
+        call(script, counts, Command::MakeStation(s, station));
     }
     for (b, ballot) in (0..64).zip(ballots) {
         if ballot != script.record.ballots[usize::from(b)] {
