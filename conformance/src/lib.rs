@@ -24,3 +24,4 @@ pub mod script;
 pub mod stack;
 pub mod subject;
 pub mod text;
+pub mod timing;

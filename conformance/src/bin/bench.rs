@@ -8,13 +8,10 @@ use conformance::plain::{run, Plain};
 use conformance::stack;
 use conformance::subject::Subject;
 use conformance::text::{settle, MOST};
+use conformance::timing::{in_turns, TURNS};
 use std::hint::black_box;
-use std::time::{Duration, Instant};
 
 const SEED: u64 = 20_260_412;
-/// Turns for each log; the fastest counts, since other work on the machine only slows a turn.
-const TURNS: usize = 60;
-const TURN: Duration = Duration::from_millis(5);
 
 /// Writes the text of a log, and answers its length.
 type Report = fn(&[u8], &mut [u8]) -> usize;
@@ -115,30 +112,11 @@ fn one_log(library: Report, (name, log): &Named) {
     assert_eq!(settle(log).as_bytes(), &text[..written], "the library's text is not the model's");
     assert!(settle(log).lines().skip(1).all(|line| line.contains("decided")), "a station is undecided");
     let events = run(log, MOST).events;
-    let [library, plain] = in_turns([library, PLAIN], log, &mut text);
+    let mut plain_text = text.clone();
+    let mut by_library = || _ = black_box(library(black_box(log), &mut text));
+    let mut by_plain = || _ = black_box(PLAIN(black_box(log), &mut plain_text));
+    let [library, plain] = in_turns([&mut by_library, &mut by_plain]);
     let rate = |seconds: f64| events as f64 / seconds;
     let (size, ratio) = (log.len(), rate(plain) / rate(library));
     println!("{name:<34}{size:>7}{events:>8}{:>14.0}{:>14.0}{ratio:>8.2}", rate(library), rate(plain));
-}
-
-/// Seconds for one report of each, the fastest of their turns.
-fn in_turns(reports: [Report; 2], log: &[u8], text: &mut [u8]) -> [f64; 2] {
-    let mut fastest = [f64::INFINITY; 2];
-    for _ in 0..TURNS {
-        for (i, report) in reports.into_iter().enumerate() {
-            fastest[i] = fastest[i].min(one_turn(report, log, text));
-        }
-    }
-    fastest
-}
-
-/// Seconds for one report, over a turn.
-fn one_turn(report: Report, log: &[u8], text: &mut [u8]) -> f64 {
-    let start = Instant::now();
-    let mut reports = 0;
-    while start.elapsed() < TURN {
-        black_box(report(black_box(log), text));
-        reports += 1;
-    }
-    start.elapsed().as_secs_f64() / f64::from(reports)
 }
