@@ -42,6 +42,8 @@ pub struct ImageJudge<'a> {
     pub faults: BTreeMap<&'static str, usize>,
     pub too_small: usize,
     pub histories: usize,
+    /// Lists in which two or more stations decided.
+    pub shared: usize,
 }
 
 fn name(event: Event) -> &'static str {
@@ -64,7 +66,8 @@ fn why_42(image: &[u8]) -> &'static str {
 
 impl<'a> ImageJudge<'a> {
     pub fn new(subject: &'a dyn Images) -> ImageJudge<'a> {
-        ImageJudge { subject, counts: BTreeMap::new(), faults: BTreeMap::new(), too_small: 0, histories: 0 }
+        let (counts, faults) = (BTreeMap::new(), BTreeMap::new());
+        ImageJudge { subject, counts, faults, too_small: 0, histories: 0, shared: 0 }
     }
 
     fn count(&mut self, operation: &'static str, number: u8, image: &[u8]) {

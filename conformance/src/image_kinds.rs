@@ -58,20 +58,20 @@ fn any_counts(rng: &mut Rng) -> Counts {
     }
 }
 
-/// The five events, LOOK, LOOK at all and the report; and the model's own way there and back.
+/// The five events, LOOK, LOOK at all and the report.
 fn through(judge: &mut ImageJudge, rng: &mut Rng, image: &[u8]) -> Checked {
     let n = image.get(1).copied().unwrap_or(0);
     for event in five_events(rng, n) {
         judge.event(image, event)?;
     }
-    looked_at(judge, rng, image, n)?;
-    match image::decode(image) {
-        Ok(record) => same_bytes("the image of its record", image, image, &image::encode(&record)),
-        Err(_) => Ok(()),
-    }
+    looked_at(judge, rng, image, n)
 }
 
+/// LOOK, LOOK at all and the report; and the model's own way to a record and back.
 fn looked_at(judge: &mut ImageJudge, rng: &mut Rng, image: &[u8], n: u8) -> Checked {
+    if let Ok(record) = image::decode(image) {
+        same_bytes("the image of its record", image, image, &image::encode(&record))?;
+    }
     let (any, size) = (rng.byte(), 8 * usize::from(n));
     judge.look(image, rng.pick(&[0, n.wrapping_sub(1), n, any, any % 32, any % 32, any % 4]))?;
     judge.look_all(image, rng.pick(&[size, size, size.saturating_sub(1), size + 1, 0, 255, 256, 300]))?;
@@ -262,7 +262,7 @@ fn short_lists(judge: &mut ImageJudge, rng: &mut Rng) -> Checked {
     Ok(())
 }
 
-/// Lists that mostly end settled, beside their histories and logs now and then.
+/// Longer lists, beside their histories and logs now and then and at the end.
 fn settlements(judge: &mut ImageJudge, rng: &mut Rng) -> Checked {
     for _ in 0..60 {
         let (n, rule) = opening(rng);
@@ -272,6 +272,7 @@ fn settlements(judge: &mut ImageJudge, rng: &mut Rng) -> Checked {
         for (i, event) in events.into_iter().enumerate() {
             list.event(judge, event, i % 101 == 0 || i == last)?;
         }
+        judge.shared += usize::from(list.deciders() > 1);
     }
     Ok(())
 }

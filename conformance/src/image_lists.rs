@@ -52,6 +52,11 @@ impl List {
         }
     }
 
+    /// How many stations have decided.
+    pub fn deciders(&self) -> usize {
+        (0..self.play.n).filter(|s| self.play.decision(*s).is_some()).count()
+    }
+
     /// LOOK by the history.
     fn look(&self, s: u8) -> Look {
         let decision = self.play.decision(s);

@@ -2,7 +2,7 @@
 //! because the subject makes it too. Places: station s begins at 3 + 20 s, ballot b at 643 + 4 b.
 
 use crate::image_judge::ImageJudge;
-use crate::judge::{same, same_bytes, Checked};
+use crate::judge::{hex, Checked};
 use crate::log::Counts;
 use crate::model::Event;
 
@@ -28,6 +28,18 @@ pub fn check(judge: &mut ImageJudge) -> Checked {
     logs(judge)
 }
 
+/// Fails where the model does not say what is written here.
+fn agree<T: PartialEq + std::fmt::Debug>(what: &str, input: &[u8], by_hand: T, model: T) -> Checked {
+    if by_hand == model {
+        return Ok(());
+    }
+    Err(format!("{what}\n  by hand:   {by_hand:?}\n  the model: {model:?}\n  input: {}", hex(input)))
+}
+
+fn agree_bytes(what: &str, input: &[u8], by_hand: &[u8], model: &[u8]) -> Checked {
+    agree(what, input, hex(by_hand), hex(model))
+}
+
 /// An image with these bytes, the others 0.
 fn image(bytes: &[Byte]) -> Vec<u8> {
     let mut image = vec![0; 899];
@@ -46,9 +58,9 @@ impl Hand<'_, '_> {
         let mut expected = self.image.clone();
         sets.iter().for_each(|(place, byte)| expected[*place] = *byte);
         let (model, after) = self.judge.event(&self.image, event)?;
-        let what = format!("{event:?} by hand");
-        same(&what, &self.image, number, model)?;
-        same_bytes(&what, &self.image, &expected, &after)?;
+        let what = format!("{event:?}");
+        agree(&what, &self.image, number, model)?;
+        agree_bytes(&what, &self.image, &expected, &after)?;
         self.image = after;
         Ok(())
     }
@@ -67,7 +79,7 @@ fn hand<'a, 'b>(judge: &'a mut ImageJudge<'b>, bytes: &[Byte]) -> Hand<'a, 'b> {
 }
 
 fn look(judge: &mut ImageJudge, image: &[u8], s: u8, word: u64) -> Checked {
-    same("LOOK by hand", image, word.to_be_bytes(), crate::image::look(image, s))?;
+    agree("LOOK", image, word.to_be_bytes(), crate::image::look(image, s))?;
     judge.look(image, s)
 }
 
@@ -81,7 +93,7 @@ fn refused(judge: &mut ImageJudge, image: &[u8], number: u8) -> Checked {
     judge.look_all(image, 256)?;
     let text = judge.report(image, Counts { events: 7, taken: 8, status: 9 })?;
     let due = format!("stations 0 rule 1 ballots 0 events 0 taken 0 status {number}\n");
-    same("a refused image's text by hand", image, due, text)
+    agree("a refused image's text", image, due, text)
 }
 
 /// The record test is passed: LOSE is accepted, and sets byte 4.
@@ -103,11 +115,11 @@ fn openings(judge: &mut ImageJudge) -> Checked {
     ] {
         let after = judge.open(&[0xee; 899], n, rule)?;
         let [version, n, rule] = head;
-        same_bytes("OPEN by hand", &head, &image(&[(0, version), (1, n), (2, rule)]), &after)?;
+        agree_bytes("OPEN", &head, &image(&[(0, version), (1, n), (2, rule)]), &after)?;
     }
     for size in [0, 1, 898, 900] {
         let after = judge.open(&vec![0xee; size], 2, 1)?;
-        same_bytes("OPEN of another length", &[], &vec![0xee; size], &after)?;
+        agree_bytes("OPEN of another length", &[], &vec![0xee; size], &after)?;
     }
     Ok(())
 }
@@ -267,8 +279,8 @@ fn looks(judge: &mut ImageJudge) -> Checked {
     }
     let both = image(&with(ONE, &[(23, 7), (39, 1), (40, 2), (41, 3), (42, 4)]));
     let due = vec![0, 0, 0, 0, 0, 0, 0, 0, 0, 1, 1, 0, 1, 2, 3, 4];
-    same("LOOK at all by hand", &both, Ok(due), crate::image::look_all(&both, 16))?;
-    same("LOOK at all by hand", &both, Err(30), crate::image::look_all(&both, 15))?;
+    agree("LOOK at all", &both, Ok(due), crate::image::look_all(&both, 16))?;
+    agree("LOOK at all", &both, Err(30), crate::image::look_all(&both, 15))?;
     [0, 1, 8, 15, 16, 17, 256].into_iter().try_for_each(|room| judge.look_all(&both, room))?;
     judge.look_all(&image(&[(0, 1), (1, 0), (2, 2)]), 0)
 }
@@ -279,10 +291,10 @@ fn texts(judge: &mut ImageJudge) -> Checked {
     let text = judge.report(&bytes, Counts { events: usize::MAX, taken: 0, status: 255 })?;
     let due = "stations 2 rule 2 ballots 64 events 18446744073709551615 taken 0 status 255\n\
                0 awaiting - votes 8 lost\n1 decided 4278190081 votes 64 live\n";
-    same("a text by hand", &bytes, due, &text)?;
+    agree("a text", &bytes, due, &text)?;
     let none = image(&[(0, 1), (1, 0), (2, 2)]);
     let text = judge.report(&none, Counts { events: 1, taken: 2, status: 3 })?;
-    same("a text by hand", &none, "stations 0 rule 2 ballots 0 events 1 taken 2 status 3\n", &text)
+    agree("a text", &none, "stations 0 rule 2 ballots 0 events 1 taken 2 status 3\n", &text)
 }
 
 /// OPEN 2, 1; CLAIM 1 9; LOSE 0; LOSE 0, as a log. No opening: the blank settlement.
@@ -301,8 +313,8 @@ fn logs(judge: &mut ImageJudge) -> Checked {
         (&[], 9, 20, &vec![(0, 1), (2, 1)]),
     ] {
         let (told, after) = judge.play(log, limit, 899)?;
-        same("RUN by hand", log, status, told)?;
-        same_bytes("RUN's image by hand", log, &image(bytes), &after)?;
+        agree("RUN", log, status, told)?;
+        agree_bytes("RUN's image", log, &image(bytes), &after)?;
     }
     [0, 898, 900].into_iter().try_for_each(|size| judge.play(&log, 9, size).map(drop))
 }

@@ -51,15 +51,21 @@ fn choose(plain: bool) -> Option<(&'static str, &'static dyn Images)> {
 fn print_counts(judge: &ImageJudge) {
     println!("\nOperations on images by number:\n{}", judge.table());
     judge.faults.iter().for_each(|(why, count)| println!("42 for {why}: {count}"));
-    println!("{} rooms too small for a text; {} LOOKs beside a history\n", judge.too_small, judge.histories);
+    println!(
+        "{} rooms too small for a text; {} LOOKs beside a history; two or more stations decided in {} lists\n",
+        judge.too_small, judge.histories, judge.shared
+    );
 }
 
 /// Every number of every operation was met often enough, and 42 for every reason.
 fn complete(judge: &ImageJudge) -> Checked {
     let missing = judge.missing();
     let rare: Vec<_> = judge.faults.iter().filter(|(_, count)| **count < LEAST).collect();
-    match missing.is_empty() && rare.is_empty() && judge.faults.len() == REASONS {
+    if !missing.is_empty() || !rare.is_empty() {
+        return Err(format!("met fewer than {LEAST} times: {missing:?} {rare:?}"));
+    }
+    match judge.faults.len() == REASONS && judge.shared > 0 {
         true => Ok(()),
-        false => Err(format!("met fewer than {LEAST} times: {missing:?} {rare:?}, or a reason for 42 never")),
+        false => Err("a reason for 42 was never met, or no decision was shared".to_string()),
     }
 }
