@@ -87,6 +87,18 @@ pub fn stations(rng: &mut Rng) -> u8 {
     }
 }
 
+/// A random opening that is accepted.
+pub fn opening(rng: &mut Rng) -> (u8, u8) {
+    (stations(rng), rng.pick(&[1, 2]))
+}
+
+/// A random list with refused events, of at most so many.
+pub fn random_list(rng: &mut Rng, n: u8, rule: u8, most: usize) -> Vec<Event> {
+    let play = Play::open(n, rule).expect("a valid opening");
+    let mix = mix(rng, n);
+    list(rng, play, &mix, most)
+}
+
 /// A list of at most so many events, refused ones included, that ends some time after all is decided.
 pub fn list(rng: &mut Rng, play: Play, mix: &Mix, most: usize) -> Vec<Event> {
     let mut play = play;

@@ -1,6 +1,6 @@
 //! The images and logs that are compared: random, made up, changed in one place, and reached from an opening.
 
-use crate::generate::{self, accepted, Rng};
+use crate::generate::{self, accepted, opening, random_list, Rng};
 use crate::image::{self, BALLOT, BALLOTS, BYTES, STATION, STATIONS, VERSION};
 use crate::image_judge::ImageJudge;
 use crate::image_lists::List;
@@ -237,18 +237,6 @@ fn near(rng: &mut Rng, n: u8, place: usize) -> [Event; 5] {
 }
 
 // ---- lists and logs
-
-/// A random opening that is accepted.
-fn opening(rng: &mut Rng) -> (u8, u8) {
-    (generate::stations(rng), rng.pick(&[1, 2]))
-}
-
-/// A random list with refused events.
-fn random_list(rng: &mut Rng, n: u8, rule: u8, most: usize) -> Vec<Event> {
-    let play = Play::open(n, rule).expect("a valid opening");
-    let mix = generate::mix(rng, n);
-    generate::list(rng, play, &mix, most)
-}
 
 /// Lists beside their histories and logs, after every event.
 fn short_lists(judge: &mut ImageJudge, rng: &mut Rng) -> Checked {

@@ -2,7 +2,7 @@
 //! `--self` compares the plain implementation instead, and needs no archive.
 
 use conformance::edges;
-use conformance::generate::{self, accepted, Rng};
+use conformance::generate::{self, accepted, opening, random_list, Rng};
 use conformance::judge::{Checked, Judge};
 use conformance::log::{self, Field};
 use conformance::model::{Event, Play};
@@ -157,18 +157,6 @@ fn events_around(n: u8, claims: [u32; 2]) -> Vec<Event> {
         events.extend((0..3).map(|a| Event::Answer { b, a }));
     }
     events
-}
-
-/// A random opening that is accepted.
-fn opening(rng: &mut Rng) -> (u8, u8) {
-    (generate::stations(rng), rng.pick(&[1, 2]))
-}
-
-/// A random list with refused events.
-fn random_list(rng: &mut Rng, n: u8, rule: u8, most: usize) -> Vec<Event> {
-    let play = Play::open(n, rule).expect("a valid opening");
-    let mix = generate::mix(rng, n);
-    generate::list(rng, play, &mix, most)
 }
 
 fn short_lists(judge: &mut Judge, rng: &mut Rng) -> Checked {

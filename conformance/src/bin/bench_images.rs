@@ -8,6 +8,7 @@ use conformance::log::written;
 use conformance::model::Event;
 use conformance::plain::{Plain, Settlement};
 use conformance::record::Record;
+use conformance::stack;
 use conformance::timing::in_turns;
 use std::hint::black_box;
 
@@ -29,7 +30,7 @@ fn main() {
     }
 }
 
-fn rows(library: &impl Images) {
+fn rows(library: &(impl Images + Sync)) {
     println!("\nnanoseconds of an operation on an image of {BYTES} bytes; the plain one is on a struct, with the record test;");
     println!("the ratio is the library's over the plain one's");
     println!("{:<42}{:>9}{:>9}{:>8}", "operation", "library", "plain", "ratio");
@@ -41,6 +42,7 @@ fn rows(library: &impl Images) {
         look_all(library, n);
     }
     open(library, 32);
+    stacks(library);
 }
 
 /// One row: calls of so many operations each.
@@ -117,6 +119,22 @@ fn open(library: &impl Images, n: u8) {
         }
     };
     row(format!("OPEN, {n} stations, rule 2"), BATCH, &mut by_library, &mut by_plain);
+}
+
+/// Bytes of stack under operations on an image of 32 stations; of events, the most that any takes.
+fn stacks(library: &(impl Images + Sync)) {
+    let (start, _) = opened(library, 32, 2);
+    let (image, _) = settled(library, 32, 2);
+    let events = settling(32, 2);
+    let log = written(32, 2, &events);
+    let event = stack::bytes_used(|| {
+        let mut image = start.to_vec();
+        events.iter().for_each(|&event| done(library.event(&mut image, event)));
+    });
+    let look_all = stack::bytes_used(|| done(library.look_all(&image, &mut vec![0; 256])));
+    let report = stack::bytes_used(|| done(library.image_report(&image, 0, 0, 0, &mut vec![0; 4096])));
+    let play = stack::bytes_used(|| done(library.play(&log, usize::MAX, &mut vec![0; BYTES])));
+    println!("stack: an event {event} bytes, LOOK at all {look_all}, report {report}, play {play}");
 }
 
 /// Keeps an answer that nobody needs.
