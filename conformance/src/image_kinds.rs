@@ -18,7 +18,7 @@ const KINDS: [fn(&mut ImageJudge, &mut Rng) -> Checked; 11] = [
     any_bytes,
     made_up_records,
     last_ballots,
-    one_byte,
+    one_change,
     every_place,
     short_lists,
     settlements,
@@ -172,11 +172,12 @@ fn some_record(rng: &mut Rng) -> Record {
     Record::run(&log::written(n, rule, &accepted(n, rule, &events)), usize::MAX).0
 }
 
-/// One byte of a good image changed, or one entry.
-fn one_byte(judge: &mut ImageJudge, rng: &mut Rng) -> Checked {
+/// A record's image as it is, then with one byte changed, then with one entry changed.
+fn one_change(judge: &mut ImageJudge, rng: &mut Rng) -> Checked {
     for _ in 0..1500 {
         let record = some_record(rng);
         let mut image = image::encode(&record);
+        through(judge, rng, &image)?;
         let any = rng.byte();
         let used = BALLOTS.min(STATIONS + STATION * usize::from(record.n));
         let place = rng.pick(&[0, 1, 2, rng.clone().below(used), rng.clone().below(BYTES)]);
