@@ -4,6 +4,7 @@ ghost use Prim.Native.Nat.{_+_};
 ghost use mathlib.Core.Path.{_≡_};
 ghost use mathlib.Core.List.{[], _∷_};
 ghost use lib.ListN.{length};
+ghost use Rattle.basics.specs.Bytes.{four-bytes};
 ghost use Rattle.basics.specs.Written.{place-up-to, Wrote};
 use crate::buffer::set_byte;
 
@@ -22,6 +23,16 @@ pub fn put_byte(out: &mut [u8], at: usize, b: u8) -> usize
 {
     set_byte(out, at, b);
     next_place(at)
+}
+
+// The four bytes of a number from a place on, high byte first; the place after them.
+pub fn put_four(out: &mut [u8], at: usize, v: u32) -> usize
+    ensures { λ x. ⌜ Wrote 4 (now (out .entry)) at (four-bytes v) (now (out .exit)) x ⌝ }
+{
+    let a = put_byte(out, at, (v / 16777216 % 256) as u8);
+    let b = put_byte(out, a, (v / 65536 % 256) as u8);
+    let c = put_byte(out, b, (v / 256 % 256) as u8);
+    put_byte(out, c, (v % 256) as u8)
 }
 
 // The bytes of a word from a place on; the place after them.

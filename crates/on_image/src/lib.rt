@@ -3,5 +3,6 @@
 
 pub mod events;
 pub mod fault;
+pub mod look;
 pub mod place;
 pub mod play;
