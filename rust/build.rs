@@ -1,0 +1,14 @@
+//! Links the library that is proved.
+
+use std::{env, path::Path};
+
+fn main() {
+    println!("cargo:rerun-if-changed=build.rs");
+    let here = env::var("CARGO_MANIFEST_DIR").expect("cargo names the package's folder");
+    let folder = Path::new(&here).join("../target/staticlib");
+    let archive = folder.join("libexports.a");
+    println!("cargo:rerun-if-changed={}", archive.display());
+    assert!(archive.exists(), "target/staticlib/libexports.a is missing: `rt staticlib exports` writes it");
+    println!("cargo:rustc-link-search=native={}", folder.display());
+    println!("cargo:rustc-link-lib=static=exports");
+}

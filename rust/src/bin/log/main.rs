@@ -1,0 +1,71 @@
+//! `./log`, for people who keep logs. A verb is a file of its own and a row of `VERBS`.
+
+mod make;
+mod show;
+#[cfg(test)]
+mod tests;
+mod verb;
+
+use std::io::{self, Write};
+use std::process::ExitCode;
+
+use verb::{Answer, Verb};
+
+const VERBS: [Verb; 2] = [show::VERB, make::VERB];
+
+const ABOUT: &str = "\
+./log VERB ..: shows and makes logs of events. The number of a refusal is said with its words.
+";
+
+const TEXT: &str = "\
+FILE - is standard input.
+
+The text has a field on each line, and from # on a comment:
+  open 2 1        two stations under rule 1
+  claim 0 7       station 0 puts in claim 7
+  deliver 1 0     the claim of station 1 reaches station 0
+  step 0          station 0 does its next thing
+  lose 1          station 1 is lost
+  answer 0 1      ballot 0 settles on bit 1
+  note \"hi\"       a note of at most 64 bytes; \\n, \\\", \\\\ and \\xNN stand for a byte
+
+Exit status: 0; 1 and a line on standard error for a log, a text or a file that will not do; 2 for a bad call.
+";
+
+fn main() -> ExitCode {
+    let words: Vec<String> = std::env::args().skip(1).collect();
+    if words.iter().any(|word| word == "--help") {
+        return finish(Answer::fine(help()));
+    }
+    let verb = VERBS.iter().find(|verb| words.first().is_some_and(|word| word == verb.name));
+    match verb {
+        Some(verb) if (verb.files).contains(&(words.len() - 1)) => finish((verb.run)(words.get(1).map(String::as_str))),
+        Some(verb) => bad_call(&[verb]),
+        None => bad_call(&VERBS.each_ref()),
+    }
+}
+
+fn help() -> String {
+    let verbs: String = VERBS.iter().map(|verb| format!("  ./log {}\n{}", verb.call, verb.about)).collect();
+    format!("{ABOUT}\n{verbs}\n{TEXT}")
+}
+
+fn bad_call(verbs: &[&Verb]) -> ExitCode {
+    let calls: Vec<String> = verbs.iter().map(|verb| format!("./log {}", verb.call)).collect();
+    eprintln!("usage: {}; ./log --help says more", calls.join(", "));
+    ExitCode::from(2)
+}
+
+/// Writes what a verb answers, and then what is wrong.
+fn finish(answer: Answer) -> ExitCode {
+    let mut out = io::stdout().lock();
+    let written = out.write_all(&answer.out).and_then(|()| out.flush());
+    let unwritten = written.err().map(|error| format!("cannot write: {error}"));
+    match unwritten.or(answer.wrong) {
+        None => ExitCode::SUCCESS,
+        Some(wrong) => {
+            eprintln!("log: {wrong}");
+            ExitCode::FAILURE
+        }
+    }
+}

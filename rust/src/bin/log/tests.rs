@@ -1,0 +1,120 @@
+//! show and make on random logs, from a fixed seed.
+
+use dagmuize::{bytes, Field, Log};
+
+use crate::make::made;
+use crate::show::shown;
+
+/// Numbers that look random.
+struct Rng(u64);
+
+impl Rng {
+    fn below(&mut self, end: usize) -> usize {
+        self.0 = self.0.wrapping_mul(6_364_136_223_846_793_005).wrapping_add(1_442_695_040_888_963_407);
+        (self.0 >> 33) as usize % end
+    }
+
+    /// A small number more often than not.
+    fn byte(&mut self) -> u8 {
+        let end = [3, 3, 3, 33, 256][self.below(5)];
+        self.below(end) as u8
+    }
+
+    fn field(&mut self) -> Field {
+        let (x, y) = (self.byte(), self.byte());
+        match self.below(8) {
+            0 => Field::Open { n: x, rule: y },
+            1 => Field::Claim { s: x, v: self.below(1 << 31) as u32 * 2 + u32::from(y % 2) },
+            2 => Field::Deliver { t: x, s: y },
+            3 | 4 => Field::Step { s: x },
+            5 => Field::Lose { s: x },
+            6 => Field::Answer { b: x, a: y },
+            _ => Field::Note((0..self.below(65)).map(|_| self.below(256) as u8).collect()),
+        }
+    }
+
+    /// A log of fields that read; three of four begin with an opening.
+    fn log(&mut self) -> Vec<u8> {
+        let mut log = Log::new();
+        if self.below(4) > 0 {
+            log.put(&Field::Open { n: 1 + self.below(4) as u8, rule: 1 + self.below(2) as u8 }).expect("it has room");
+        }
+        for _ in 0..self.below(20) {
+            log.put(&self.field()).expect("its note has at most 64 bytes");
+        }
+        log.into_bytes()
+    }
+}
+
+/// The line that says where the log stops.
+fn stop_line(text: &str, log: &[u8]) -> Option<String> {
+    let place = bytes::taken(log, log.len());
+    let here = format!("# {place}: stops with {}: ", bytes::status(log, log.len()));
+    let stops: Vec<&str> = text.lines().filter(|line| line.contains(": stops with ") && line.contains(&here)).collect();
+    stops.first().map(|line| line.to_string())
+}
+
+#[test]
+fn show_and_make_are_inverse_on_logs_whose_fields_read() {
+    let mut rng = Rng(20_261_116);
+    let mut stopped = 0;
+    for _ in 0..20_000 {
+        let log = rng.log();
+        let text = shown(&log);
+        assert_eq!(text.wrong.is_some(), log.is_empty(), "only the empty log is said to be none");
+        let back = made(&text.out);
+        assert_eq!((&back.out, back.wrong), (&log, None));
+        assert_eq!(shown(&back.out).out, text.out);
+        let text = String::from_utf8(text.out).expect("it is ASCII");
+        let stops = !log.is_empty() && bytes::status(&log, log.len()) != 0;
+        assert_eq!(stop_line(&text, &log).is_some(), stops, "{text}");
+        stopped += usize::from(stops);
+    }
+    assert!((10_000..20_000).contains(&stopped), "logs that stop and logs that do not: {stopped}");
+}
+
+#[test]
+fn the_fields_before_one_that_does_not_read_are_shown() {
+    let mut rng = Rng(3);
+    let mut unread = 0;
+    for _ in 0..20_000 {
+        let mut log = rng.log();
+        log.extend([&[9][..], &[0x12, 0], &[0x12, 0, 2, 0, 0], &[0x30, 0, 9, 1]][rng.below(4)]);
+        let text = shown(&log);
+        let wrong = text.wrong.expect("the last field does not read");
+        let before = made(&text.out).out;
+        assert!(log.starts_with(&before) && before.len() < log.len());
+        let number = bytes::read_number(&log[before.len()..]);
+        assert!(wrong.starts_with(&format!("byte {}: {number}: ", before.len())), "{wrong}");
+        unread += usize::from(number > 20);
+    }
+    assert!(unread > 5_000);
+}
+
+#[test]
+fn the_field_that_stops_has_the_number_and_its_words() {
+    let log = made(b"open 2 1\nclaim 0 7\n\nclaim 0 8  # again\n  # and\nstep 9\n");
+    assert_eq!(log.wrong, None);
+    let text = String::from_utf8(shown(&log.out).out).expect("it is ASCII");
+    let lines = [
+        "open 2 1                # 0",
+        "claim 0 7               # 5",
+        "claim 0 8               # 13: stops with 3: the station has put in a claim already",
+        "step 9                  # 21",
+    ];
+    assert_eq!(text, lines.map(|line| format!("{line}\n")).concat());
+}
+
+#[test]
+fn a_bad_line_gets_its_number_and_no_byte_is_made() {
+    let wrong = |text: &str| {
+        let answer = made(text.as_bytes());
+        assert!(answer.out.is_empty());
+        answer.wrong.expect("it is wrong")
+    };
+    assert_eq!(wrong("open 2 1\nclaim 0\nstep x"), "line 2: claim takes a station and a claim");
+    assert_eq!(wrong("# x\r\n\r\nstep 256\r\n"), "line 3: '256' is no number from 0 to 255");
+    let long = format!("note \"{}\"", "a".repeat(65));
+    assert_eq!(wrong(&long), "line 1: 22: a field with this tag has another length");
+    assert_eq!(made(b"step 1\n\xff").wrong, Some("line 2: it is no text in UTF-8".to_string()));
+}

@@ -1,0 +1,42 @@
+//! What a verb is, and what verbs share.
+
+use std::fs;
+use std::io::{self, Read};
+use std::ops::RangeInclusive;
+
+pub struct Verb {
+    pub name: &'static str,
+    /// The call in the usage line.
+    pub call: &'static str,
+    /// Indented lines of the help.
+    pub about: &'static str,
+    /// How many words it takes after its name.
+    pub files: RangeInclusive<usize>,
+    pub run: fn(Option<&str>) -> Answer,
+}
+
+/// What goes to standard output and, where something is wrong, the line for standard error.
+pub struct Answer {
+    pub out: Vec<u8>,
+    pub wrong: Option<String>,
+}
+
+impl Answer {
+    pub fn fine(out: impl Into<Vec<u8>>) -> Answer {
+        Answer { out: out.into(), wrong: None }
+    }
+
+    pub fn wrong(wrong: String) -> Answer {
+        Answer { out: Vec::new(), wrong: Some(wrong) }
+    }
+}
+
+/// The bytes of a file, or of standard input.
+pub fn input(file: Option<&str>) -> Result<Vec<u8>, String> {
+    let mut bytes = Vec::new();
+    let read = match file {
+        None | Some("-") => io::stdin().read_to_end(&mut bytes).map(|_| bytes),
+        Some(name) => fs::read(name),
+    };
+    read.map_err(|error| format!("cannot read {}: {error}", file.unwrap_or("-")))
+}
