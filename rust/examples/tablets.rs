@@ -1,4 +1,4 @@
-//! Three tablets claim one hold, and one of them goes flat. The same from C: `tablets.c`.
+//! Three tablets claim one hold, and one of them goes flat. The same from C: `conformance/examples/tablets.c`.
 
 use dagmuize::{Refusal, Rule, Settlement};
 

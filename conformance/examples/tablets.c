@@ -1,4 +1,4 @@
-/* Three tablets claim one hold, and one of them goes flat. The same from Rust: tablets.rs. */
+/* Three tablets claim one hold, and one of them goes flat. The same from Rust: rust/examples/tablets.rs. */
 #include <stdio.h>
 
 #include "dagmuize.h"
