@@ -33,15 +33,15 @@ enum {
     DAGMUIZE_NOT_CAST = 12, /* no station cast that bit in the ballot */
     DAGMUIZE_SHORT = 20, /* fewer than three bytes are left, too few for a field */
     DAGMUIZE_TAG = 21, /* no field has this tag */
-    DAGMUIZE_LENGTH = 22, /* a field with this tag has another length */
+    DAGMUIZE_LENGTH = 22, /* a length that such a field does not have (a note has 64 bytes at most) */
     DAGMUIZE_CUT = 23, /* the field's body is cut short */
     DAGMUIZE_NO_OPENING = 24, /* the first field is no opening */
     DAGMUIZE_SECOND_OPENING = 25, /* a second opening */
     DAGMUIZE_LIMIT = 26, /* the limit of events is reached, and there is more */
-    DAGMUIZE_NO_ROOM = 30, /* not enough room from the place on, or the place is past the end */
+    DAGMUIZE_NO_ROOM = 30, /* not enough room in the buffer, or the place is past its end */
     DAGMUIZE_STATIONS = 40, /* no station, or more than 32 */
     DAGMUIZE_RULE = 41, /* a rule other than 1 and 2 */
-    DAGMUIZE_RECORD = 42, /* a made-up record outside its ranges, or a STEP that takes answer 0 from the last ballot */
+    DAGMUIZE_RECORD = 42, /* made-up bytes: a record outside its ranges, or a STEP that takes answer 0 from the last ballot */
     DAGMUIZE_IMAGE_LENGTH = 80, /* an image has 899 bytes, no more and no fewer */
     DAGMUIZE_IMAGE_VERSION = 81 /* the image's first byte is another version than 1 */
 };

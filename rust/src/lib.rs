@@ -1,8 +1,8 @@
 //! Hold settlement: several stations claim the same hold, and the claim that stands is built out of ballots that settle
 //! a yes or a no. Every function of the library below is proved; what is promised is told in the repository's README.
 //!
-//! Three tablets claim one hold. Tablet 2 goes flat after its first vote; the two others decide the same claim, here that
-//! of tablet 2, which had reached them.
+//! Three tablets claim one hold. Tablet 2 goes flat after its first vote; the two others decide the same claim, here
+//! that of tablet 2, which had reached them.
 //!
 //! ```
 //! use dagmuize::{Rule, Settlement, Standing};

@@ -48,7 +48,8 @@ impl Log {
     }
 }
 
-/// The fields of a log with the places where they begin. One that does not read gives its place and the refusal, and ends it.
+/// The fields of a log with the places where they begin. One that does not read gives its place and the refusal, and
+/// ends it.
 pub struct Fields<'a> {
     log: &'a [u8],
     place: usize,

@@ -77,7 +77,8 @@ impl Settlement {
         self.image
     }
 
-    /// The settlement of an image. Refused: 80 for another length, 81 for another version, 42 for what no settlement has.
+    /// The settlement of an image. Refused: 80 for another length, 81 for another version, 42 for what no settlement
+    /// has.
     ///
     /// A made-up image may pass, and some later event of it may then be refused with 42.
     pub fn from_bytes(image: &[u8]) -> Result<Settlement, Refusal> {

@@ -37,11 +37,13 @@ fn main() -> ExitCode {
     if words.iter().any(|word| word == "--help") {
         return finish(Answer::fine(help()));
     }
-    let verb = VERBS.iter().find(|verb| words.first().is_some_and(|word| word == verb.name));
-    match verb {
-        Some(verb) if (verb.files).contains(&(words.len() - 1)) => finish((verb.run)(words.get(1).map(String::as_str))),
-        Some(verb) => bad_call(&[verb]),
-        None => bad_call(&VERBS.each_ref()),
+    let Some((name, rest)) = words.split_first() else {
+        return bad_call(&VERBS);
+    };
+    match VERBS.iter().find(|verb| verb.name == name) {
+        None => bad_call(&VERBS),
+        Some(verb) if verb.takes.contains(&rest.len()) => finish((verb.run)(rest)),
+        Some(verb) => bad_call(std::slice::from_ref(verb)),
     }
 }
 
@@ -50,22 +52,24 @@ fn help() -> String {
     format!("{ABOUT}\n{verbs}\n{TEXT}")
 }
 
-fn bad_call(verbs: &[&Verb]) -> ExitCode {
+fn bad_call(verbs: &[Verb]) -> ExitCode {
     let calls: Vec<String> = verbs.iter().map(|verb| format!("./log {}", verb.call)).collect();
     eprintln!("usage: {}; ./log --help says more", calls.join(", "));
     ExitCode::from(2)
 }
 
-/// Writes what a verb answers, and then what is wrong.
+/// Writes what a verb answers, and then says what is wrong.
 fn finish(answer: Answer) -> ExitCode {
     let mut out = io::stdout().lock();
-    let written = out.write_all(&answer.out).and_then(|()| out.flush());
-    let unwritten = written.err().map(|error| format!("cannot write: {error}"));
-    match unwritten.or(answer.wrong) {
-        None => ExitCode::SUCCESS,
-        Some(wrong) => {
-            eprintln!("log: {wrong}");
-            ExitCode::FAILURE
-        }
-    }
+    let wrong = match out.write_all(&answer.out).and_then(|()| out.flush()) {
+        // nobody reads on: the status that a shell gives to a program which that signal ends, and no line
+        Err(error) if error.kind() == io::ErrorKind::BrokenPipe => return ExitCode::from(141),
+        Err(error) => Some(format!("cannot write: {error}")),
+        Ok(()) => answer.wrong,
+    };
+    let Some(wrong) = wrong else {
+        return ExitCode::SUCCESS;
+    };
+    eprintln!("log: {wrong}");
+    ExitCode::FAILURE
 }

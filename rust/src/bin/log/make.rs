@@ -11,12 +11,12 @@ pub const VERB: Verb = Verb {
         "      The log of a text, on standard output: what show prints is such a text. A bad line gets its number and
       what is wrong, and no byte is written. Without FILE the text is standard input.
 ",
-    files: 0..=1,
+    takes: 0..=1,
     run,
 };
 
-fn run(file: Option<&str>) -> Answer {
-    match input(file) {
+fn run(words: &[String]) -> Answer {
+    match input(words.first().map_or("-", String::as_str)) {
         Ok(text) => made(&text),
         Err(wrong) => Answer::wrong(wrong),
     }

@@ -12,12 +12,12 @@ pub const VERB: Verb = Verb {
       not played. A field that does not read ends it: its byte, its number and what it says are the line on
       standard error, and the exit status is 1.
 ",
-    files: 1..=1,
+    takes: 1..=1,
     run,
 };
 
-fn run(file: Option<&str>) -> Answer {
-    match input(file) {
+fn run(words: &[String]) -> Answer {
+    match input(&words[0]) {
         Ok(log) => shown(&log),
         Err(wrong) => Answer::wrong(wrong),
     }

@@ -115,6 +115,6 @@ fn a_bad_line_gets_its_number_and_no_byte_is_made() {
     assert_eq!(wrong("open 2 1\nclaim 0\nstep x"), "line 2: claim takes a station and a claim");
     assert_eq!(wrong("# x\r\n\r\nstep 256\r\n"), "line 3: '256' is no number from 0 to 255");
     let long = format!("note \"{}\"", "a".repeat(65));
-    assert_eq!(wrong(&long), "line 1: 22: a field with this tag has another length");
+    assert_eq!(wrong(&long), "line 1: 22: a length that such a field does not have (a note has 64 bytes at most)");
     assert_eq!(made(b"step 1\n\xff").wrong, Some("line 2: it is no text in UTF-8".to_string()));
 }

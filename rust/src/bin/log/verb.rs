@@ -11,8 +11,8 @@ pub struct Verb {
     /// Indented lines of the help.
     pub about: &'static str,
     /// How many words it takes after its name.
-    pub files: RangeInclusive<usize>,
-    pub run: fn(Option<&str>) -> Answer,
+    pub takes: RangeInclusive<usize>,
+    pub run: fn(&[String]) -> Answer,
 }
 
 /// What goes to standard output and, where something is wrong, the line for standard error.
@@ -31,12 +31,12 @@ impl Answer {
     }
 }
 
-/// The bytes of a file, or of standard input.
-pub fn input(file: Option<&str>) -> Result<Vec<u8>, String> {
+/// The bytes of a file; `-` is standard input.
+pub fn input(file: &str) -> Result<Vec<u8>, String> {
     let mut bytes = Vec::new();
     let read = match file {
-        None | Some("-") => io::stdin().read_to_end(&mut bytes).map(|_| bytes),
-        Some(name) => fs::read(name),
+        "-" => io::stdin().read_to_end(&mut bytes).map(|_| bytes),
+        name => fs::read(name),
     };
-    read.map_err(|error| format!("cannot read {}: {error}", file.unwrap_or("-")))
+    read.map_err(|error| format!("cannot read {file}: {error}"))
 }
