@@ -55,7 +55,9 @@
 //! ```
 
 #![warn(missing_docs)]
+#![deny(unsafe_code)]
 
+#[allow(unsafe_code)]
 pub mod bytes;
 mod field;
 mod log;

@@ -6,6 +6,7 @@ mod show;
 mod tests;
 mod verb;
 
+use std::ffi::OsString;
 use std::io::{self, Write};
 use std::process::ExitCode;
 
@@ -33,14 +34,14 @@ Exit status: 0; 1 and a line on standard error for a log, a text or a file that 
 ";
 
 fn main() -> ExitCode {
-    let words: Vec<String> = std::env::args().skip(1).collect();
+    let words: Vec<OsString> = std::env::args_os().skip(1).collect();
     if words.iter().any(|word| word == "--help") {
         return finish(Answer::fine(help()));
     }
     let Some((name, rest)) = words.split_first() else {
         return bad_call(&VERBS);
     };
-    match VERBS.iter().find(|verb| verb.name == name) {
+    match VERBS.iter().find(|verb| name == verb.name) {
         None => bad_call(&VERBS),
         Some(verb) if verb.takes.contains(&rest.len()) => finish((verb.run)(rest)),
         Some(verb) => bad_call(std::slice::from_ref(verb)),

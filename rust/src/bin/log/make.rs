@@ -1,5 +1,7 @@
 //! `./log make [FILE]`: words turned into a log.
 
+use std::ffi::{OsStr, OsString};
+
 use dagmuize::{Field, Log};
 
 use crate::verb::{input, Answer, Verb};
@@ -15,8 +17,8 @@ pub const VERB: Verb = Verb {
     run,
 };
 
-fn run(words: &[String]) -> Answer {
-    match input(words.first().map_or("-", String::as_str)) {
+fn run(words: &[OsString]) -> Answer {
+    match input(words.first().map_or(OsStr::new("-"), OsString::as_os_str)) {
         Ok(text) => made(&text),
         Err(wrong) => Answer::wrong(wrong),
     }

@@ -1,5 +1,7 @@
 //! `./log show FILE`: a log in words.
 
+use std::ffi::OsString;
+
 use dagmuize::{Field, Fields, Played, Settlement};
 
 use crate::verb::{input, Answer, Verb};
@@ -16,7 +18,7 @@ pub const VERB: Verb = Verb {
     run,
 };
 
-fn run(words: &[String]) -> Answer {
+fn run(words: &[OsString]) -> Answer {
     match input(&words[0]) {
         Ok(log) => shown(&log),
         Err(wrong) => Answer::wrong(wrong),

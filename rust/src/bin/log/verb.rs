@@ -1,5 +1,6 @@
 //! What a verb is, and what verbs share.
 
+use std::ffi::{OsStr, OsString};
 use std::fs;
 use std::io::{self, Read};
 use std::ops::RangeInclusive;
@@ -12,7 +13,7 @@ pub struct Verb {
     pub about: &'static str,
     /// How many words it takes after its name.
     pub takes: RangeInclusive<usize>,
-    pub run: fn(&[String]) -> Answer,
+    pub run: fn(&[OsString]) -> Answer,
 }
 
 /// What goes to standard output and, where something is wrong, the line for standard error.
@@ -32,11 +33,11 @@ impl Answer {
 }
 
 /// The bytes of a file; `-` is standard input.
-pub fn input(file: &str) -> Result<Vec<u8>, String> {
+pub fn input(file: &OsStr) -> Result<Vec<u8>, String> {
     let mut bytes = Vec::new();
-    let read = match file {
-        "-" => io::stdin().read_to_end(&mut bytes).map(|_| bytes),
-        name => fs::read(name),
+    let read = match file == "-" {
+        true => io::stdin().read_to_end(&mut bytes).map(|_| bytes),
+        false => fs::read(file),
     };
-    read.map_err(|error| format!("cannot read {file}: {error}"))
+    read.map_err(|error| format!("cannot read {}: {error}", file.to_string_lossy()))
 }
