@@ -1,5 +1,6 @@
-/* The same as report.rs, from C: a small log is built with PUT, and its report is printed. Every function of the header is called. */
+/* The same as report.rs, from C: a small log is built with PUT, and its report is printed. With tablets.c, every function of the header is called. */
 #include <stdio.h>
+#include <string.h>
 
 #include "dagmuize.h"
 
@@ -18,6 +19,10 @@ int main(void) {
     if (dagmuize_status(log, end, 3) != 0 || dagmuize_events(log, end, 3) != 3 || dagmuize_taken(log, end, 3) != end) return 2;
     /* no room: nothing is written, and the count is 0 */
     if (dagmuize_report(log, end, NULL, 0) != 0 || dagmuize_status(NULL, 0, 3) != 20) return 3;
+    /* the settlement that the log plays to has the same report */
+    uint8_t image[DAGMUIZE_IMAGE_BYTES], again[DAGMUIZE_REPORT_BYTES];
+    if (dagmuize_play(log, end, 3, image, sizeof image) != 0 || dagmuize_play(log, end, 3, NULL, 0) != DAGMUIZE_IMAGE_LENGTH) return 4;
     size_t length = dagmuize_report(log, end, text, sizeof text);
-    return fwrite(text, 1, length, stdout) == length ? 0 : 4;
+    if (dagmuize_image_report(image, sizeof image, 3, end, 0, again, sizeof again) != length || memcmp(text, again, length) != 0) return 5;
+    return fwrite(text, 1, length, stdout) == length ? 0 : 6;
 }
