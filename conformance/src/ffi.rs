@@ -39,70 +39,45 @@ impl Subject for Archive {
     }
 }
 
-// ---- operations on an image
-
-extern "C" {
-    fn dagmuize_open(image: *mut u8, image_len: usize, n: u8, rule: u8) -> u8;
-    fn dagmuize_claim(image: *mut u8, image_len: usize, s: u8, v: u32) -> u8;
-    fn dagmuize_deliver(image: *mut u8, image_len: usize, t: u8, s: u8) -> u8;
-    fn dagmuize_step(image: *mut u8, image_len: usize, s: u8) -> u8;
-    fn dagmuize_lose(image: *mut u8, image_len: usize, s: u8) -> u8;
-    fn dagmuize_answer(image: *mut u8, image_len: usize, b: u8, a: u8) -> u8;
-    fn dagmuize_look(image: *const u8, image_len: usize, s: u8) -> u64;
-    fn dagmuize_look_all(image: *const u8, image_len: usize, out: *mut u8, out_len: usize) -> u32;
-    fn dagmuize_image_report(
-        image: *const u8,
-        image_len: usize,
-        events: usize,
-        taken: usize,
-        status: u8,
-        out: *mut u8,
-        out_len: usize,
-    ) -> usize;
-    fn dagmuize_play(log: *const u8, log_len: usize, limit: usize, image: *mut u8, image_len: usize) -> u8;
-}
-
-// Safety: as above.
 impl Images for Archive {
     fn open(&self, image: &mut [u8], n: u8, rule: u8) -> u8 {
-        unsafe { dagmuize_open(image.as_mut_ptr(), image.len(), n, rule) }
+        bytes::open(image, n, rule)
     }
 
     fn claim(&self, image: &mut [u8], s: u8, v: u32) -> u8 {
-        unsafe { dagmuize_claim(image.as_mut_ptr(), image.len(), s, v) }
+        bytes::claim(image, s, v)
     }
 
     fn deliver(&self, image: &mut [u8], t: u8, s: u8) -> u8 {
-        unsafe { dagmuize_deliver(image.as_mut_ptr(), image.len(), t, s) }
+        bytes::deliver(image, t, s)
     }
 
     fn step(&self, image: &mut [u8], s: u8) -> u8 {
-        unsafe { dagmuize_step(image.as_mut_ptr(), image.len(), s) }
+        bytes::step(image, s)
     }
 
     fn lose(&self, image: &mut [u8], s: u8) -> u8 {
-        unsafe { dagmuize_lose(image.as_mut_ptr(), image.len(), s) }
+        bytes::lose(image, s)
     }
 
     fn answer(&self, image: &mut [u8], b: u8, a: u8) -> u8 {
-        unsafe { dagmuize_answer(image.as_mut_ptr(), image.len(), b, a) }
+        bytes::answer(image, b, a)
     }
 
     fn look(&self, image: &[u8], s: u8) -> u64 {
-        unsafe { dagmuize_look(image.as_ptr(), image.len(), s) }
+        bytes::look(image, s)
     }
 
     fn look_all(&self, image: &[u8], out: &mut [u8]) -> u32 {
-        unsafe { dagmuize_look_all(image.as_ptr(), image.len(), out.as_mut_ptr(), out.len()) }
+        bytes::look_all(image, out)
     }
 
     fn image_report(&self, image: &[u8], events: usize, taken: usize, status: u8, out: &mut [u8]) -> usize {
-        let (text, room) = (out.as_mut_ptr(), out.len());
-        unsafe { dagmuize_image_report(image.as_ptr(), image.len(), events, taken, status, text, room) }
+        bytes::image_report(image, events, taken, status, out)
     }
 
     fn play(&self, log: &[u8], limit: usize, image: &mut [u8]) -> u8 {
-        unsafe { dagmuize_play(log.as_ptr(), log.len(), limit, image.as_mut_ptr(), image.len()) }
+        bytes::play(log, limit, image)
     }
 }
 

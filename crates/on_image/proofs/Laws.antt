@@ -23,7 +23,7 @@ two-stored b an in-bytes i t k u hi hk =
     let r = record-in b in
     let whole : image-of r ≡ b = image-again b (is-image b an) in-bytes in
     let first : image-of (with-station i t r) ≡ over (station-at i) (station-bytes t) b =
-        station-stored r (stations-in b) i t hi ∙ ap (λ (l : List ℕ). over (station-at i) (station-bytes t) l) whole in
+    station-stored r (stations-in b) i t hi ∙ ap (λ (l : List ℕ). over (station-at i) (station-bytes t) l) whole in
     sym (ballot-stored (with-station i t r) (length-set (r .stations) i t ∙ stations-in b) (ballots-in b) k u hk
     ∙ ap (λ (l : List ℕ). over (ballot-at k) (ballot-bytes u) l) first)
 

@@ -11,10 +11,10 @@ use entry::entry::Ballot;
 use entry::entry::Station;
 use image::ballot::ballot_from;
 use image::ballot::write_ballot;
-use image::layout::BALLOTS;
 use image::layout::BALLOT_WIDTH;
-use image::layout::STATIONS;
+use image::layout::BALLOTS;
 use image::layout::STATION_WIDTH;
+use image::layout::STATIONS;
 use image::station::station_from;
 use image::station::write_station;
 

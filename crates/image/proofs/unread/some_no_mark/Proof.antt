@@ -1,3 +1,4 @@
+-- `image::unread::some_no_mark`: `found` is the definition at the bytes passed; the measure is what is left of them. Assumes nothing.
 use denote.Ref.{now}
 use Prim.Native.Nat.{ℕ, _≤_, _-_}
 use mathlib.Core.Path.{_≡_, refl, ap, _∙_}
@@ -10,8 +11,6 @@ use Rattle.basics.specs.Bytes.{byte}
 use Rattle.image.specs.Entries.{no-mark}
 use Rattle.image.proofs.unread.some_no_mark.Statement.{statement}
 use Rattle.image.proofs.unread.some_no_mark.Tie as tie
-use Rattle.image.proofs.unread.some_no_mark.Reads as reads
-use Rattle.image.proofs.unread.some_no_mark.Lts as lts
 
 abbrev Inv-loop : tie.InvT-loop
 Inv-loop part found₀ i₀ found i = (i ≤ length part) × (found ≡ any-below i (λ k. no-mark (byte part k)))
@@ -19,29 +18,23 @@ Inv-loop part found₀ i₀ found i = (i ≤ length part) × (found ≡ any-belo
 abbrev μ-loop : tie.MeasureT-loop
 μ-loop part found₀ i₀ found i = length part - i
 
--- src/unread.rt:25:5
 loop-holds : tie.Need-loop-holds Inv-loop μ-loop
 unfolding any-below
 loop-holds c = (search needs, refl)
 
--- src/unread.rt:26:22
 shared-slice-read-found : tie.Need-shared-slice-read-found Inv-loop μ-loop
 shared-slice-read-found c = omega arith
 
--- src/unread.rt:27:9
 add-i : tie.Need-add-i Inv-loop μ-loop
 add-i c = omega arith
 
--- src/unread.rt:25:5
 loop-less : tie.Need-loop-less Inv-loop μ-loop
 loop-less c = omega arith
 
--- src/unread.rt:25:5
 loop-again : tie.Need-loop-again Inv-loop μ-loop
 unfolding any-below
 loop-again c = (omega arith, rw (add-one, c .before .before .loop .inv .1))
 
--- src/unread.rt:20:1
 returns : tie.Need-returns Inv-loop μ-loop
 returns c =
     let i = c .before .loop .i in

@@ -1,3 +1,4 @@
+-- `image::unread::some_station_unread`: `found` is the definition at the stations passed; the measure is what is left of them. Assumes nothing.
 use denote.Ref.{now}
 use Prim.Native.Nat.{ℕ, _≤_, _-_}
 use mathlib.Core.Path.{_≡_, refl, ap, _∙_}
@@ -15,9 +16,6 @@ use Rattle.image.specs.Entries.{station-unread}
 use Rattle.image.specs.Image.{station-at}
 use Rattle.image.proofs.unread.some_station_unread.Statement.{statement}
 use Rattle.image.proofs.unread.some_station_unread.Tie as tie
-use Rattle.image.proofs.unread.some_station_unread.Reads as reads
-use Rattle.image.proofs.unread.some_station_unread.Lts as lts
-use Rattle.basics.proofs.buffer.byte_at.Reads as byte-at-reads
 
 abbrev unread-at : List ℕ → ℕ → Bool
 unread-at image s = station-unread (drop (station-at s) image)
@@ -28,44 +26,25 @@ Inv-loop image found₀ s₀ found s = (s ≤ station-entries) × (found ≡ any
 abbrev μ-loop : tie.MeasureT-loop
 μ-loop image found₀ s₀ found s = station-entries - s
 
--- src/unread.rt:38:5
 loop-holds : tie.Need-loop-holds Inv-loop μ-loop
 unfolding any-below
 loop-holds c = (search needs, refl)
 
--- src/unread.rt:39:45
-cast-at : tie.Need-cast-at Inv-loop μ-loop
-cast-at c = search needs
-
--- src/unread.rt:39:29
 mul-at : tie.Need-mul-at Inv-loop μ-loop
 mul-at c = omega arith
 
--- src/unread.rt:39:18
 add-at : tie.Need-add-at Inv-loop μ-loop
 add-at c = omega arith
 
--- src/unread.rt:40:22
-byte-at-requires : tie.Need-byte-at-requires Inv-loop μ-loop
-byte-at-requires c κs = search needs
-
--- src/unread.rt:40:64
 add-byte-at : tie.Need-add-byte-at Inv-loop μ-loop
 add-byte-at c = omega arith
 
--- src/unread.rt:40:49
-byte-at-requires-2 : tie.Need-byte-at-requires-2 Inv-loop μ-loop
-byte-at-requires-2 c κs = search needs
-
--- src/unread.rt:41:9
 add-s : tie.Need-add-s Inv-loop μ-loop
 add-s c = omega arith
 
--- src/unread.rt:38:5
 loop-less : tie.Need-loop-less Inv-loop μ-loop
 loop-less c = omega arith
 
--- src/unread.rt:38:5
 loop-again : tie.Need-loop-again Inv-loop μ-loop
 unfolding any-below
 loop-again c =
@@ -73,7 +52,6 @@ loop-again c =
     let at = station-at (c .before .before .before .loop .s) in
     (omega arith, rw (add-one, c .before .before .before .loop .inv .1, c .byte-at2 .ensures, c .before .byte-at .ensures, getD-drop at image 0 0, getD-drop at image 1 0, add-zero))
 
--- src/unread.rt:33:1
 returns : tie.Need-returns Inv-loop μ-loop
 returns c =
     let s = c .before .loop .s in
@@ -87,12 +65,12 @@ some-station-unread-spec =
     Inv-loop
     μ-loop
     loop-holds
-    cast-at
+    (λ cast-at. search needs)
     mul-at
     add-at
-    byte-at-requires
+    (λ byte-at-requires κs. search needs)
     add-byte-at
-    byte-at-requires-2
+    (λ byte-at-requires-2 κs. search needs)
     add-s
     loop-less
     loop-again

@@ -1,3 +1,4 @@
+-- `on_image::fault::some_station_faulty`: `found` is the definition at the stations passed; the measure is what is left of them. Assumes nothing.
 use Prim.Native.Nat.{ℕ, _≤_, _-_}
 use mathlib.Core.Path.{_≡_, refl, sym, ap, _∙_}
 use native.Mathlib.Omega.{arith}
@@ -9,10 +10,6 @@ use Rattle.image.specs.Image.{record-in}
 use Rattle.settlement.specs.Fault.{fault-at}
 use Rattle.on_image.proofs.fault.some_station_faulty.Statement.{statement}
 use Rattle.on_image.proofs.fault.some_station_faulty.Tie as tie
-use Rattle.on_image.proofs.fault.some_station_faulty.Reads as reads
-use Rattle.on_image.proofs.fault.some_station_faulty.Lts as lts
-use Rattle.on_image.proofs.place.station_in.Reads as station-in-reads
-use Rattle.settlement.proofs.fault.station_faulty.Reads as station-faulty-reads
 
 abbrev Inv-loop : tie.InvT-loop
 Inv-loop image n rule found₀ s₀ found s = (s ≤ n) × (found ≡ any-below s (fault-at (record-in image)))
@@ -20,39 +17,25 @@ Inv-loop image n rule found₀ s₀ found s = (s ≤ n) × (found ≡ any-below 
 abbrev μ-loop : tie.MeasureT-loop
 μ-loop image n rule found₀ s₀ found s = n - s
 
--- src/fault.rt:24:5
 loop-holds : tie.Need-loop-holds Inv-loop μ-loop
 unfolding any-below
 loop-holds c = (search needs, refl)
 
--- src/fault.rt:25:59
-cast-station-in : tie.Need-cast-station-in Inv-loop μ-loop
-cast-station-in c = search needs
-
--- src/fault.rt:25:41
 station-in-requires : tie.Need-station-in-requires Inv-loop μ-loop
 station-in-requires c κs = let pre = c .before .before .before .pre in (pre .0, omega (arith, pre .1 .0))
 
--- src/fault.rt:25:17
-station-faulty-requires : tie.Need-station-faulty-requires Inv-loop μ-loop
-station-faulty-requires c κs = search needs
-
--- src/fault.rt:26:9
 add-s : tie.Need-add-s Inv-loop μ-loop
 add-s c = omega arith
 
--- src/fault.rt:24:5
 loop-less : tie.Need-loop-less Inv-loop μ-loop
 loop-less c = omega arith
 
--- src/fault.rt:24:5
 loop-again : tie.Need-loop-again Inv-loop μ-loop
 unfolding any-below record-in
 loop-again c =
     let pre = c .before .before .before .before .before .pre in
     (omega arith, rw (add-one, c .station-faulty .ensures, c .before .station-in .ensures, c .before .before .before .loop .inv .1, pre .1 .1 .0, pre .1 .1 .1))
 
--- src/fault.rt:15:1
 returns : tie.Need-returns Inv-loop μ-loop
 returns c =
     let start = c .before .before .before in
@@ -66,9 +49,9 @@ some-station-faulty-spec =
     Inv-loop
     μ-loop
     loop-holds
-    cast-station-in
+    (λ cast-station-in. search needs)
     station-in-requires
-    station-faulty-requires
+    (λ station-faulty-requires κs. search needs)
     add-s
     loop-less
     loop-again

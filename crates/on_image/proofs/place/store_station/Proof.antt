@@ -1,3 +1,4 @@
+-- `on_image::place::store_station`: the part that was lent comes back with its start filled. Assumes nothing.
 use denote.Ref.{now}
 use native.Mathlib.Omega.{arith}
 use Rattle.basics.proofs.Bytes.{filled}
@@ -7,39 +8,7 @@ use Rattle.image.proofs.Entries.{station-wide}
 use borrow.Author.Needs.{needs}
 use Rattle.on_image.proofs.place.store_station.Statement.{statement}
 use Rattle.on_image.proofs.place.store_station.Tie as tie
-use Rattle.on_image.proofs.place.store_station.Reads as reads
-use Rattle.on_image.proofs.place.store_station.Lts as lts
-use Rattle.image.proofs.station.write_station.Reads as write-station-reads
 
--- src/place.rt:42:41
-mul-write-station : tie.Need-mul-write-station
-mul-write-station c = search needs
-
--- src/place.rt:42:30
-add-write-station : tie.Need-add-write-station
-add-write-station c = search needs
-
--- src/place.rt:42:19
-sub-write-station : tie.Need-sub-write-station
-sub-write-station c = search needs
-
--- src/place.rt:42:19
-part-write-station-start : tie.Need-part-write-station-start
-part-write-station-start c = search needs
-
--- src/place.rt:42:19
-part-write-station-end : tie.Need-part-write-station-end
-part-write-station-end c = search needs
-
--- src/place.rt:42:5
-write-station-requires : tie.Need-write-station-requires
-write-station-requires c κs = search needs
-
--- src/place.rt:37:1
-same-length : tie.Need-same-length
-same-length c = search needs
-
--- src/place.rt:37:1
 returns : tie.Need-returns
 returns c =
     let start = c .before .before .before .before .before in
@@ -54,11 +23,11 @@ pub store-station-spec : {M : Type 1} → statement M
 store-station-spec =
     tie.close
     (tie.spec
-    mul-write-station
-    add-write-station
-    sub-write-station
-    part-write-station-start
-    part-write-station-end
-    write-station-requires
-    same-length
+    (λ mul-write-station. search needs)
+    (λ add-write-station. search needs)
+    (λ sub-write-station. search needs)
+    (λ part-write-station-start. search needs)
+    (λ part-write-station-end. search needs)
+    (λ write-station-requires κs. search needs)
+    (λ same-length. search needs)
     returns)

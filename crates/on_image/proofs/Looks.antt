@@ -1,0 +1,129 @@
+-- What LOOK on an image answers, by its tests: bytes that are no image, a refusal, and a station inside the array. Assumes nothing.
+use Prim.Native.Nat.{ℕ, zero, suc, _+_, _*_, _≤_, _<_}
+use mathlib.Core.Path.{_≡_, refl, sym, ap, _∙_}
+use mathlib.Core.Bool.{Bool, true, false, cond, not}
+use mathlib.Core.List.{List}
+use native.Mathlib.Nat.{lt-of-lt-of-le, zero-add, add-zero, mul-suc}
+use borrow.Author.Tests.{eqb-true, eqb-false, ne-eqb, lt-ltb, ltb-true, ltb-false}
+use lib.Dec.{eqb, ltb}
+use lib.ListN.{length, length-append}
+use lib.Seq.{sets, sets-eq}
+use Rattle.basics.specs.Bytes.{byte, over}
+use Rattle.basics.specs.Tests.{refuse, first-met}
+use Rattle.basics.proofs.Bools.{by-bool, not-false→true}
+use Rattle.basics.proofs.Refusals.{refused-not}
+use Rattle.entry.specs.Entries.{station-entries, no-station}
+use Rattle.settlement.specs.declared.record.Settlement.{Settlement}
+use Rattle.settlement.specs.declared.record.Standing.{Standing}
+use Rattle.settlement.specs.Record.{entry}
+use Rattle.settlement.specs.Fault.{fault}
+use Rattle.settlement.specs.Look.{look-tests, standing, turned-away, looked}
+use Rattle.settlement.proofs.Range.{few-stations}
+use Rattle.image.specs.Image.{record-in, no-image}
+use Rattle.on_image.specs.Look.{looked-on, standing-bytes, standings, all-number, all-after, all-answer}
+
+module _ (r : Settlement) (s : ℕ) where
+  abbrev tested : ℕ
+  tested = first-met (look-tests r s)
+
+  -- not refused: of a record that passes, and of a station inside the array
+  pub passed : tested ≡ 0 → (fault r ≡ false) × (s < station-entries)
+  unfolding first-met
+  passed z =
+      let one = refused-not (fault r) 42 (refuse (no-station (r .count) s) 1 0) refl z in
+      let two = refused-not (no-station (r .count) s) 1 0 refl (one .1) in
+      (one .0, lt-of-lt-of-le (ltb-true s (r .count) (not-false→true _ (two .0))) (few-stations r (one .0)))
+
+  pub not-refused : fault r ≡ false → s < r .count → tested ≡ 0
+  unfolding first-met
+  not-refused passes below = rw (passes, lt-ltb s (r .count) below)
+
+  pub shown : tested ≡ 0 → looked r s ≡ standing (r .count) (r .rule) (entry r s)
+  unfolding looked
+  shown z = rw z
+
+  turned : (tested ≡ 0 → ⊥) → looked r s ≡ turned-away tested
+  unfolding looked
+  turned n = rw (ne-eqb tested 0 n)
+
+  pub its-number : looked r s .number ≡ tested
+  its-number =
+      by-bool (eqb tested 0) (λ p. let z = eqb-true tested 0 p in ap (λ (t : Standing). t .number) (shown z) ∙ sym z)
+      (λ p. ap (λ (t : Standing). t .number) (turned (eqb-false tested 0 p)))
+
+  pub refused-shows : (tested ≡ 0 → ⊥) → looked r s ≡ turned-away (looked r s .number)
+  refused-shows n = turned n ∙ ap turned-away (sym its-number)
+
+module _ (b : List ℕ) (s : ℕ) where
+  pub no-image-shown : (no-image b ≡ 0 → ⊥) → looked-on b s ≡ turned-away (no-image b)
+  unfolding looked-on
+  no-image-shown n = rw (ne-eqb (no-image b) 0 n)
+
+  pub image-shown : no-image b ≡ 0 → looked-on b s ≡ looked (record-in b) s
+  unfolding looked-on
+  image-shown z = rw z
+
+  -- a number other than 0 comes with nothing shown
+  pub nothing-shown : (looked-on b s .number ≡ 0 → ⊥) → turned-away (looked-on b s .number) ≡ looked-on b s
+  nothing-shown n = by-bool (eqb (no-image b) 0) yes no
+    where
+      yes : eqb (no-image b) 0 ≡ true → turned-away (looked-on b s .number) ≡ looked-on b s
+      yes p =
+          let same = image-shown (eqb-true _ 0 p) in
+          let met : first-met (look-tests (record-in b) s) ≡ 0 → ⊥ = (λ z. n (ap (λ (t : Standing). t .number) same ∙ its-number (record-in b) s ∙ z)) in
+          rw same (sym (refused-shows (record-in b) s met))
+
+      no : eqb (no-image b) 0 ≡ false → turned-away (looked-on b s .number) ≡ looked-on b s
+      no p = let none = no-image-shown (eqb-false _ 0 p) in rw none
+
+  -- and 0 with an image, of which LOOK is not refused
+  pub something-shown : looked-on b s .number ≡ 0 → (no-image b ≡ 0) × (first-met (look-tests (record-in b) s) ≡ 0)
+  something-shown z = by-bool (eqb (no-image b) 0) yes no
+    where
+      yes : eqb (no-image b) 0 ≡ true → (no-image b ≡ 0) × (first-met (look-tests (record-in b) s) ≡ 0)
+      yes p =
+          let an = eqb-true (no-image b) 0 p in
+          (an, sym (its-number (record-in b) s) ∙ sym (ap (λ (t : Standing). t .number) (image-shown an)) ∙ z)
+
+      no : eqb (no-image b) 0 ≡ false → (no-image b ≡ 0) × (first-met (look-tests (record-in b) s) ≡ 0)
+      no p =
+          let n = eqb-false (no-image b) 0 p in
+          absurd (n (sym (ap (λ (t : Standing). t .number) (no-image-shown n)) ∙ z))
+
+-- ---- all stations at once
+
+standings-long : (f : ℕ → Standing) (n : ℕ) → length (standings f n) ≡ 8 * n
+unfolding standings standing-bytes
+standings-long f zero = refl
+standings-long f (suc n) = length-append (standings f n) (standing-bytes (f n)) ∙ ap (λ (k : ℕ). k + 8) (standings-long f n) ∙ sym (mul-suc 8 n)
+
+module _ (b out : List ℕ) where
+  pub record Room : Type 0 where
+    pub an-image : no-image b ≡ 0
+    pub passes : fault (record-in b) ≡ false
+    pub fits : 8 * byte b 1 ≤ length out
+
+  abbrev later : ℕ
+  later = refuse (fault (record-in b)) 42 (refuse (ltb (length out) (8 * byte b 1)) 30 0)
+
+  cond-0 : (k x : ℕ) → cond (eqb k 0) x k ≡ 0 → (k ≡ 0) × (x ≡ 0)
+  cond-0 k x e = by-bool (eqb k 0) (λ p. (eqb-true k 0 p, rw p at e)) (λ p. absurd (eqb-false k 0 p (rw p at e)))
+
+  pub room : all-number b out ≡ 0 → Room
+  unfolding all-number
+  room z =
+      let both = cond-0 (no-image b) later z in
+      let one = refused-not (fault (record-in b)) 42 (refuse (ltb (length out) (8 * byte b 1)) 30 0) refl (both .1) in
+      let two = refused-not (ltb (length out) (8 * byte b 1)) 30 0 refl (one .1) in
+      record { an-image = both .0; passes = one .0; fits = ltb-false _ _ (two .0) }
+
+  pub all-refused : (all-number b out ≡ 0 → ⊥) → (65536 * all-number b out ≡ all-answer b out) × (out ≡ all-after b out)
+  unfolding all-answer all-after
+  all-refused n = let e = ne-eqb (all-number b out) 0 n in (rw (e, add-zero), rw e)
+
+  pub all-written : all-number b out ≡ 0
+      → (8 * byte b 1 ≡ all-answer b out) × (sets out 0 (standings (looked (record-in b)) (byte b 1)) ≡ all-after b out)
+  unfolding all-answer all-after
+  all-written z =
+      let t = standings (looked (record-in b)) (byte b 1) in
+      (rw (z, zero-add), rw z (sets-eq t out 0 (rw (standings-long, zero-add) (room z .fits))))
