@@ -1,7 +1,6 @@
 // A whole record read off an image, and stored as one.
 ghost use mathlib.Core.Path.{_≡_};
-ghost use mathlib.Core.List.{_++_};
-ghost use lib.ListN.{length, take, drop};
+ghost use lib.ListN.{length, take};
 ghost use Rattle.image.specs.Image.{ballot-at, image-bytes, image-of, stations-in, ballots-in};
 ghost use Rattle.whole_image.specs.Whole.{read-record, stored-number, stored};
 use entry::entry::BALLOT_ENTRIES;
@@ -73,10 +72,10 @@ pub fn read_record(image: &[u8]) -> Outcome
     }
 }
 
-// The version, the record's numbers and its stations stored.
+// The version, the record's numbers and its stations stored: the image as far as the ballots.
 fn store_stations(image: &mut [u8], r: Settlement)
     requires { ⌜ length (now image) ≡ image-bytes ⌝ }
-    ensures { λ _. ⌜ now (image .exit) ≡ take (ballot-at 0) (image-of r) ++ drop (ballot-at 0) (now (image .entry)) ⌝ }
+    ensures { λ _. ⌜ take (ballot-at 0) (now (image .exit)) ≡ take (ballot-at 0) (image-of r) ⌝ }
 {
     image[0] = VERSION;
     image[1] = r.count;
@@ -90,10 +89,10 @@ fn store_stations(image: &mut [u8], r: Settlement)
     }
 }
 
-// The ballots stored after them.
+// The ballots stored after them: the image whole.
 fn store_ballots(image: &mut [u8], r: Settlement)
-    requires { ⌜ length (now image) ≡ image-bytes ⌝ }
-    ensures { λ _. ⌜ now (image .exit) ≡ take (ballot-at 0) (now (image .entry)) ++ drop (ballot-at 0) (image-of r) ⌝ }
+    requires { ⌜ (length (now image) ≡ image-bytes) × (take (ballot-at 0) (now image) ≡ take (ballot-at 0) (image-of r)) ⌝ }
+    ensures { λ _. ⌜ now (image .exit) ≡ image-of r ⌝ }
 {
     let mut k: usize = 0;
     while k < BALLOT_ENTRIES {
