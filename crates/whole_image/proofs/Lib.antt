@@ -1,5 +1,5 @@
 -- Laws that belong to no one function.
 --     Partly    a list whose first entries are already those of another
---     Reports   the number with which an image is reported
+--     Reading   what was read off bytes, and the number with which they are reported
 pub mod Partly
-pub mod Reports
+pub mod Reading

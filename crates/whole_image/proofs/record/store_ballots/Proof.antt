@@ -1,8 +1,8 @@
+-- `whole_image::record::store_ballots`: entry by entry, from where the stations end; the measure is what is left of them. Assumes nothing.
 use Prim.Native.Nat.{_+_, _≤_, _<_, _-_}
-use mathlib.Core.Path.{_≡_, refl, sym, ap, _∙_}
-use mathlib.Core.List.{_++_}
+use mathlib.Core.Path.{_≡_, sym}
 use native.Mathlib.Omega.{arith}
-use lib.ListN.{length, drop, take-append-drop}
+use lib.ListN.{length, take-append-drop}
 use denote.Ref.{now}
 use borrow.Author.Needs.{needs}
 use Rattle.basics.proofs.Lists.{unmapped-length}
@@ -15,9 +15,6 @@ use Rattle.image.proofs.Image.{image-long, ballot-bytes-at}
 use Rattle.whole_image.proofs.Partly.{Stored, stored-more, stored-whole}
 use Rattle.whole_image.proofs.record.store_ballots.Statement.{statement}
 use Rattle.whole_image.proofs.record.store_ballots.Tie as tie
-use Rattle.whole_image.proofs.record.store_ballots.Reads as reads
-use Rattle.whole_image.proofs.record.store_ballots.Lts as lts
-use Rattle.image.proofs.ballot.write_ballot.Reads as write-ballot-reads
 
 abbrev Inv-loop : tie.InvT-loop
 Inv-loop image₀ r k₀ image k = (k ≤ ballot-entries) × Stored (image-of r) image₀ image-bytes (ballot-at k) image
@@ -25,53 +22,14 @@ Inv-loop image₀ r k₀ image k = (k ≤ ballot-entries) × Stored (image-of r)
 abbrev μ-loop : tie.MeasureT-loop
 μ-loop image₀ r k₀ image k = ballot-entries - k
 
--- src/record.rt:98:5
 loop-holds : tie.Need-loop-holds Inv-loop μ-loop
 loop-holds c =
     let image = now (c .before .args .image) in
     (search needs, record { long = c .before .pre .0; so-far = rw (← c .before .pre .1) (sym (take-append-drop (ballot-at 0) image)) })
 
--- src/record.rt:99:17
-mul-t : tie.Need-mul-t Inv-loop μ-loop
-mul-t c = search needs
-
--- src/record.rt:99:17
-element-copy-out-t : tie.Need-element-copy-out-t Inv-loop μ-loop
-element-copy-out-t c = search needs
-
--- src/record.rt:100:43
-mul-write-ballot : tie.Need-mul-write-ballot Inv-loop μ-loop
-mul-write-ballot c = search needs
-
--- src/record.rt:100:33
-add-write-ballot : tie.Need-add-write-ballot Inv-loop μ-loop
-add-write-ballot c = search needs
-
--- src/record.rt:100:22
-sub-write-ballot : tie.Need-sub-write-ballot Inv-loop μ-loop
-sub-write-ballot c = search needs
-
--- src/record.rt:100:22
-part-write-ballot-start : tie.Need-part-write-ballot-start Inv-loop μ-loop
-part-write-ballot-start c = search needs
-
--- src/record.rt:100:22
-part-write-ballot-end : tie.Need-part-write-ballot-end Inv-loop μ-loop
-part-write-ballot-end c = search needs
-
--- src/record.rt:100:9
-write-ballot-requires : tie.Need-write-ballot-requires Inv-loop μ-loop
-write-ballot-requires c κs = tt
-
--- src/record.rt:101:9
-add-k : tie.Need-add-k Inv-loop μ-loop
-add-k c = search needs
-
--- src/record.rt:98:5
 loop-less : tie.Need-loop-less Inv-loop μ-loop
 loop-less c = omega arith
 
--- src/record.rt:98:5
 loop-again : tie.Need-loop-again Inv-loop μ-loop
 loop-again c =
     let start = c .before .before .before .before .before .before .before .before in
@@ -84,18 +42,12 @@ loop-again c =
     let ballots : length (r .ballots) ≡ ballot-entries = search (unmapped-length, needs) in
     let long = image-long r stations ballots in
     let wide = ballot-wide t in
-    let place : ballot-at k + length (ballot-bytes t) ≡ ballot-at (k + 1) = omega arith in
-    (
+    let place : ballot-at k + length (ballot-bytes t) ≡ ballot-at (k + 1) = omega arith in (
       omega arith,
       stored-more (image-of r) (now (start .args .image)) image-bytes long (start .pre .0) (ballot-at k) (ballot-at (k + 1)) (ballot-bytes t) _ (turn .loop .image) _ place
-      (omega arith) (ballot-bytes-at r stations ballots k inside) (turn .loop .inv .1) (c .before .before .write-ballot .ensures),
+          (omega arith) (ballot-bytes-at r stations ballots k inside) (turn .loop .inv .1) (c .before .before .write-ballot .ensures),
     )
 
--- src/record.rt:93:1
-same-length : tie.Need-same-length Inv-loop μ-loop
-same-length c = search needs
-
--- src/record.rt:93:1
 returns : tie.Need-returns Inv-loop μ-loop
 returns c =
     let start = c .before .before .before in
@@ -113,16 +65,16 @@ store-ballots-spec =
     Inv-loop
     μ-loop
     loop-holds
-    mul-t
-    element-copy-out-t
-    mul-write-ballot
-    add-write-ballot
-    sub-write-ballot
-    part-write-ballot-start
-    part-write-ballot-end
-    write-ballot-requires
-    add-k
+    (λ mul-t. search needs)
+    (λ element-copy-out-t. search needs)
+    (λ mul-write-ballot. search needs)
+    (λ add-write-ballot. search needs)
+    (λ sub-write-ballot. search needs)
+    (λ part-write-ballot-start. search needs)
+    (λ part-write-ballot-end. search needs)
+    (λ write-ballot-requires κs. tt)
+    (λ add-k. search needs)
     loop-less
     loop-again
-    same-length
+    (λ same-length. search needs)
     returns)

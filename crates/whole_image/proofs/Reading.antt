@@ -1,17 +1,24 @@
--- The number with which an image is reported, from what was read off it; where it is 0, the record of the image was read. Assumes nothing.
+-- What was read off bytes: where they are an image they are long enough; the number with which they are reported, and where it is 0 the record was read.
+-- Assumes nothing.
 use Prim.Native.Nat.{ℕ}
 use mathlib.Core.Path.{_≡_, refl, sym, ap, _∙_}
 use mathlib.Core.Bool.{Bool, true, false, cond, not, true≢false}
 use mathlib.Core.List.{List}
 use borrow.Author.Tests.{eq-eqb}
 use lib.Dec.{eqb}
+use lib.ListN.{length}
 use Rattle.basics.specs.Tests.{refuse, first-met}
 use Rattle.basics.proofs.Bools.{by-bool}
 use Rattle.settlement.specs.declared.record.Settlement.{Settlement}
 use Rattle.settlement.specs.Fault.{fault}
 use Rattle.settlement.specs.Events.{outcome, blank, opened}
-use Rattle.image.specs.Image.{record-in, no-image}
+use Rattle.image.specs.Image.{image-bytes, record-in, no-image}
+use Rattle.image.proofs.Image.{is-image}
 use Rattle.whole_image.specs.Whole.{read-record, report-number}
+
+-- bytes that are an image are as many as it has
+pub image-size : (b : List ℕ) {number : ℕ} → number ≡ no-image b → number ≡ 0 → length b ≡ image-bytes
+image-size b n z = is-image b (sym n ∙ z) .size
 
 -- a refused OPEN of no stations leaves the blank settlement
 pub opened-blank : opened 0 1 .settlement ≡ blank
