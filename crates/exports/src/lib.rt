@@ -17,6 +17,8 @@ use log::run::run;
 use put::put::put;
 use report::report::report;
 
+pub mod images;
+
 #[no_mangle]
 pub extern "C" fn dagmuize_report(log: &[u8], out: &mut [u8]) -> usize
     ensures { λ x. ⌜ Printed (report (now (log .entry))) (now (out .entry)) (now (out .exit)) x ⌝ }

@@ -1,0 +1,10 @@
+-- `exports::images::dagmuize_look`. Assumes nothing.
+use borrow.Author.Needs.{needs}
+use Rattle.exports.proofs.images.dagmuize_look.Statement.{statement}
+use Rattle.exports.proofs.images.dagmuize_look.Tie as tie
+
+returns : tie.Need-returns
+returns c = cc
+
+pub dagmuize-look-spec : {M : Type 1} → statement M
+dagmuize-look-spec = tie.close (tie.spec (λ look-on-requires κs. search needs) (λ standing-word-requires κs. search needs) returns)
