@@ -12,7 +12,6 @@ use crate::layout::IMAGE_BYTES;
 use crate::layout::STATION_WIDTH;
 use crate::layout::STATIONS;
 use crate::layout::VERSION;
-use basics::buffer::byte_at;
 use basics::refusal::refuse;
 use entry::entry::STATION_ENTRIES;
 
@@ -31,13 +30,14 @@ fn some_no_mark(part: &[u8]) -> bool
 
 // Whether a station has a stage or a mark that does not exist.
 fn some_station_unread(image: &[u8]) -> bool
+    requires { ⌜ length (now image) ≡ image-bytes ⌝ }
     ensures { λ x. ⌜ x ≡ any-below station-entries (λ s. station-unread (drop (station-at s) (now (image .entry)))) ⌝ }
 {
     let mut found = false;
     let mut s: u8 = 0;
     while s < STATION_ENTRIES {
         let at = STATIONS + STATION_WIDTH * s as usize;
-        found = (7 < byte_at(image, at)) | (1 < byte_at(image, at + 1)) | found;
+        found = (7 < image[at]) | (1 < image[at + 1]) | found;
         s += 1;
     }
     found

@@ -1,20 +1,23 @@
 -- Two entries stored in an image are the image of the record with both; bytes that are no image are turned away first. Assumes nothing.
-use Prim.Native.Nat.{ℕ, _<_}
+use Prim.Native.Nat.{ℕ, _+_, _<_}
 use mathlib.Core.Path.{_≡_, refl, sym, ap, _∙_}
-use mathlib.Core.Bool.{cond}
+use mathlib.Core.Bool.{false, cond}
 use mathlib.Core.List.{List}
 use borrow.Author.Tests.{ne-eqb}
 use lib.Dec.{eqb}
+use native.Mathlib.Nat.{add-zero}
 use lib.ListN.{length, length-set}
-use Rattle.basics.specs.Bytes.{In-bytes, over}
+use lib.Seq.{getD-drop}
+use Rattle.basics.specs.Bytes.{byte, In-bytes, over}
 use Rattle.entry.specs.declared.entry.Station.{Station}
 use Rattle.entry.specs.declared.entry.Ballot.{Ballot}
 use Rattle.consensus.specs.Events.{Event}
 use Rattle.settlement.specs.Record.{with-station, with-ballot}
 use Rattle.settlement.specs.Events.{played}
-use Rattle.image.specs.Entries.{station-bytes, ballot-bytes}
+use Rattle.settlement.specs.Fault.{station-fault, fault-at}
+use Rattle.image.specs.Entries.{stage-from, station-from, station-bytes, ballot-bytes}
 use Rattle.image.specs.Image.{station-at, ballot-at, image-of, record-in, no-image}
-use Rattle.image.proofs.Image.{is-image, stations-in, ballots-in, image-again, station-stored, ballot-stored}
+use Rattle.image.proofs.Image.{is-image, entry-in, stations-in, ballots-in, image-again, station-stored, ballot-stored}
 use Rattle.on_image.specs.Events.{number-on, image-after}
 
 pub two-stored : (b : List ℕ) → no-image b ≡ 0 → In-bytes b → (i : ℕ) (t : Station) (k : ℕ) (u : Ballot) → i < 32 → k < 64
@@ -26,6 +29,26 @@ two-stored b an in-bytes i t k u hi hk =
     station-stored r (stations-in b) i t hi ∙ ap (λ (l : List ℕ). over (station-at i) (station-bytes t) l) whole in
     sym (ballot-stored (with-station i t r) (length-set (r .stations) i t ∙ stations-in b) (ballots-in b) k u hk
     ∙ ap (λ (l : List ℕ). over (ballot-at k) (ballot-bytes u) l) first)
+
+-- what the record test asks of a station stands in three of its bytes
+abbrev pub asked : List ℕ → ℕ → Station
+asked b at =
+    record {
+      stage = stage-from (byte b at);
+      lost = false;
+      held = 0;
+      claim = 0;
+      cursor = byte b (at + 2);
+      round = byte b (at + 3);
+      word = 0;
+      decision = 0;
+    }
+
+pub fault-asked : (b : List ℕ) (s : ℕ) → s < 32
+    → station-fault (byte b 1) (byte b 2) (asked b (station-at s)) ≡ fault-at (record-in b) s
+unfolding station-fault station-from record-in
+fault-asked b s h =
+    rw (entry-in b s h, getD-drop (station-at s) b 0 0, getD-drop (station-at s) b 2 0, getD-drop (station-at s) b 3 0, add-zero)
 
 module _ (b : List ℕ) (e : Event) where
   pub no-image-first : (no-image b ≡ 0 → ⊥) → (no-image b ≡ number-on b e) × (b ≡ image-after b e)

@@ -8,6 +8,7 @@ use borrow.Author.Needs.{needs}
 use Rattle.basics.specs.Below.{any-below}
 use Rattle.image.specs.Image.{record-in}
 use Rattle.settlement.specs.Fault.{fault-at}
+use Rattle.on_image.proofs.Laws.{fault-asked}
 use Rattle.on_image.proofs.fault.some_station_faulty.Statement.{statement}
 use Rattle.on_image.proofs.fault.some_station_faulty.Tie as tie
 
@@ -21,8 +22,26 @@ loop-holds : tie.Need-loop-holds Inv-loop μ-loop
 unfolding any-below
 loop-holds c = (search needs, refl)
 
-station-in-requires : tie.Need-station-in-requires Inv-loop μ-loop
-station-in-requires c κs = let pre = c .before .before .before .pre in (pre .0, omega (arith, pre .1 .0))
+mul-at : tie.Need-mul-at Inv-loop μ-loop
+mul-at c = omega arith
+
+add-at : tie.Need-add-at Inv-loop μ-loop
+add-at c = omega arith
+
+shared-slice-read-standing-so : tie.Need-shared-slice-read-standing-so Inv-loop μ-loop
+shared-slice-read-standing-so c = omega (arith, c .before .before .before .before .pre .0, c .before .before .before .before .pre .1 .0)
+
+add-standing-so : tie.Need-add-standing-so Inv-loop μ-loop
+add-standing-so c = omega arith
+
+shared-slice-read-standing-so-2 : tie.Need-shared-slice-read-standing-so-2 Inv-loop μ-loop
+shared-slice-read-standing-so-2 c = omega (arith, c .before .before .before .before .before .pre .0, c .before .before .before .before .before .pre .1 .0)
+
+add-standing-so-2 : tie.Need-add-standing-so-2 Inv-loop μ-loop
+add-standing-so-2 c = omega arith
+
+shared-slice-read-standing-so-3 : tie.Need-shared-slice-read-standing-so-3 Inv-loop μ-loop
+shared-slice-read-standing-so-3 c = omega (arith, c .before .before .before .before .before .before .pre .0, c .before .before .before .before .before .before .pre .1 .0)
 
 add-s : tie.Need-add-s Inv-loop μ-loop
 add-s c = omega arith
@@ -31,10 +50,13 @@ loop-less : tie.Need-loop-less Inv-loop μ-loop
 loop-less c = omega arith
 
 loop-again : tie.Need-loop-again Inv-loop μ-loop
-unfolding any-below record-in
+unfolding any-below
 loop-again c =
-    let pre = c .before .before .before .before .before .pre in
-    (omega arith, rw (add-one, c .station-faulty .ensures, c .before .station-in .ensures, c .before .before .before .loop .inv .1, pre .1 .1 .0, pre .1 .1 .1))
+    let start = c .before .before .before .before .before .before .before .before in
+    let s = c .before .before .before .before .before .before .loop .s in
+    let pre = start .pre in
+    let here = fault-asked (now (start .args .image)) s (omega (arith, pre .1 .0)) in
+    (omega arith, rw (add-one s, c .station-faulty .ensures, c .before .standing-so .ensures, c .before .before .before .before .before .before .loop .inv .1, pre .1 .1 .0, pre .1 .1 .1, here))
 
 returns : tie.Need-returns Inv-loop μ-loop
 returns c =
@@ -49,8 +71,15 @@ some-station-faulty-spec =
     Inv-loop
     μ-loop
     loop-holds
-    (λ cast-station-in. search needs)
-    station-in-requires
+    (λ cast-at. search needs)
+    mul-at
+    add-at
+    shared-slice-read-standing-so
+    add-standing-so
+    shared-slice-read-standing-so-2
+    add-standing-so-2
+    shared-slice-read-standing-so-3
+    (λ standing-so-requires κs. search needs)
     (λ station-faulty-requires κs. search needs)
     add-s
     loop-less
