@@ -6,6 +6,7 @@ ghost use Rattle.field.specs.Table.{row-with};
 ghost use Rattle.exports.specs.Exports.{asked, put-answer, put-after};
 ghost use Rattle.report.specs.Report.{report};
 ghost use Rattle.report.specs.Written.{Printed};
+ghost use Rattle.whole_image.specs.Whole.{stored-number, stored, image-text};
 use bits::word::Word;
 use event::event::Event;
 use field::field::Field;
@@ -16,8 +17,8 @@ use field::table::row_with;
 use log::run::run;
 use put::put::put;
 use report::report::report;
-
-pub mod images;
+use whole_image::whole::image_of_log;
+use whole_image::whole::image_report;
 
 #[no_mangle]
 pub extern "C" fn dagmuize_report(log: &[u8], out: &mut [u8]) -> usize
@@ -115,4 +116,26 @@ pub extern "C" fn dagmuize_put(
         }
         Known::Unknown => 21 * 65536,
     }
+}
+
+#[no_mangle]
+pub extern "C" fn dagmuize_image_report(
+    image: &[u8],
+    events: usize,
+    taken: usize,
+    status: u8,
+    out: &mut [u8],
+) -> usize
+    ensures { λ x. ⌜ Printed (image-text (now (image .entry)) events taken status) (now (out .entry)) (now (out .exit)) x ⌝ }
+{
+    image_report(image, events, taken, status, out)
+}
+
+// RUN's status, and its settlement as an image.
+#[no_mangle]
+pub extern "C" fn dagmuize_play(log: &[u8], limit: usize, image: &mut [u8]) -> u8
+    ensures { λ x. ⌜ x ≡ stored-number (now (image .entry)) (ran (now (log .entry)) limit .status) ⌝ }
+    ensures { λ _. ⌜ now (image .exit) ≡ stored (now (image .entry)) (ran (now (log .entry)) limit .settlement) ⌝ }
+{
+    image_of_log(log, limit, image)
 }

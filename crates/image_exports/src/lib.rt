@@ -1,12 +1,11 @@
-// The operations on an image, a settlement as bytes that the caller keeps.
+// The functions that other languages call on an image, a settlement as bytes that the caller keeps. They are a library of their own, beside `exports`:
+// in one library with RUN the compiler would not inline what both call, and RUN would be slower.
 ghost use mathlib.Core.Path.{_≡_};
 ghost use Rattle.consensus.specs.Events.{claim, deliver, step, lose, answer};
 ghost use Rattle.settlement.specs.Events.{opened};
-ghost use Rattle.log.specs.Run.{ran};
-ghost use Rattle.report.specs.Written.{Printed};
 ghost use Rattle.on_image.specs.Events.{number-on, image-after};
 ghost use Rattle.on_image.specs.Look.{looked-on, standing-word, all-answer, all-after};
-ghost use Rattle.whole_image.specs.Whole.{stored-number, stored, image-text};
+ghost use Rattle.whole_image.specs.Whole.{stored-number, stored};
 use bits::word::Word;
 use on_image::events::answer_on;
 use on_image::events::claim_on;
@@ -16,8 +15,6 @@ use on_image::events::step_on;
 use on_image::look::look_all;
 use on_image::look::look_on;
 use on_image::look::standing_word;
-use whole_image::whole::image_of_log;
-use whole_image::whole::image_report;
 use whole_image::whole::open_image;
 
 #[no_mangle]
@@ -82,26 +79,4 @@ pub extern "C" fn dagmuize_look_all(image: &[u8], out: &mut [u8]) -> u32
     ensures { λ _. ⌜ now (out .exit) ≡ all-after (now (image .entry)) (now (out .entry)) ⌝ }
 {
     look_all(image, out)
-}
-
-#[no_mangle]
-pub extern "C" fn dagmuize_image_report(
-    image: &[u8],
-    events: usize,
-    taken: usize,
-    status: u8,
-    out: &mut [u8],
-) -> usize
-    ensures { λ x. ⌜ Printed (image-text (now (image .entry)) events taken status) (now (out .entry)) (now (out .exit)) x ⌝ }
-{
-    image_report(image, events, taken, status, out)
-}
-
-// RUN's status, and its settlement as an image.
-#[no_mangle]
-pub extern "C" fn dagmuize_play(log: &[u8], limit: usize, image: &mut [u8]) -> u8
-    ensures { λ x. ⌜ x ≡ stored-number (now (image .entry)) (ran (now (log .entry)) limit .status) ⌝ }
-    ensures { λ _. ⌜ now (image .exit) ≡ stored (now (image .entry)) (ran (now (log .entry)) limit .settlement) ⌝ }
-{
-    image_of_log(log, limit, image)
 }

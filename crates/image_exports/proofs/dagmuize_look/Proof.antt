@@ -1,7 +1,7 @@
--- `exports::images::dagmuize_look`. Assumes nothing.
+-- `image_exports::dagmuize_look`. Assumes nothing.
 use borrow.Author.Needs.{needs}
-use Rattle.exports.proofs.images.dagmuize_look.Statement.{statement}
-use Rattle.exports.proofs.images.dagmuize_look.Tie as tie
+use Rattle.image_exports.proofs.dagmuize_look.Statement.{statement}
+use Rattle.image_exports.proofs.dagmuize_look.Tie as tie
 
 returns : tie.Need-returns
 returns c = cc
