@@ -1,4 +1,4 @@
-/* Hold settlement: the functions that the library exports, for x86-64 Linux. Link target/staticlib/libexports.a, which `rt staticlib exports` writes.
+/* Hold settlement: the functions that the library exports, for x86-64 Linux. Link target/libdagmuize.a, which ./library writes.
 
    What a caller owes:
    - A buffer is a pointer to as many bytes as its length says. They may be read, and written where it is not const.

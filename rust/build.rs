@@ -5,10 +5,10 @@ use std::{env, path::Path};
 fn main() {
     println!("cargo:rerun-if-changed=build.rs");
     let here = env::var("CARGO_MANIFEST_DIR").expect("cargo names the package's folder");
-    let folder = Path::new(&here).join("../target/staticlib");
-    let archive = folder.join("libexports.a");
+    let folder = Path::new(&here).join("../target");
+    let archive = folder.join("libdagmuize.a");
     println!("cargo:rerun-if-changed={}", archive.display());
-    assert!(archive.exists(), "target/staticlib/libexports.a is missing: `rt staticlib exports` writes it");
+    assert!(archive.exists(), "target/libdagmuize.a is missing: ./library writes it");
     println!("cargo:rustc-link-search=native={}", folder.display());
-    println!("cargo:rustc-link-lib=static=exports");
+    println!("cargo:rustc-link-lib=static=dagmuize");
 }

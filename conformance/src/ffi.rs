@@ -5,7 +5,7 @@ use dagmuize::bytes;
 use crate::images::Images;
 use crate::subject::{Parts, Subject};
 
-/// The archive that `rt staticlib exports` writes.
+/// The archive that ./library writes.
 pub struct Archive;
 
 impl Subject for Archive {
