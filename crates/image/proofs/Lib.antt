@@ -2,6 +2,8 @@
 --     Lists     entries laid one after the other, cut and replaced
 --     Entries   an entry and its bytes, both ways
 --     Image     an image and its record, both ways
+--     Examples  images byte by byte
 pub mod Lists
 pub mod Entries
 pub mod Image
+pub mod Examples

@@ -2,6 +2,8 @@
 --     Lists     entries laid one after the other
 --     Entries   a station's entry and a ballot's as bytes
 --     Image     the layout, which bytes are no image, and both ways
+--     Examples  images byte by byte
 pub mod Lists
 pub mod Entries
 pub mod Image
+pub mod Examples

@@ -1,0 +1,78 @@
+-- Images byte by byte, in literal numbers, so that a definition that changes together with its code is noticed here. Assumes nothing.
+use Prim.Native.Nat.{ℕ}
+use mathlib.Core.Path.{_≡_}
+use mathlib.Core.Bool.{true, false}
+use mathlib.Core.List.{List, [], _∷_, _++_, map}
+use lib.ListN.{replicate, set}
+use Rattle.basics.specs.Bytes.{byte}
+use Rattle.entry.specs.declared.entry.Stage.{Stage}
+use Rattle.entry.specs.declared.entry.Stage.the-variants.{Idle, Waiting, Voting, Awaiting, Seeking, FinishVoting, FinishAwaiting, Decided}
+use Rattle.entry.specs.declared.entry.Station.{Station}
+use Rattle.entry.specs.declared.entry.Ballot.{Ballot}
+use Rattle.settlement.specs.Record.{entry, ballot}
+use Rattle.settlement.specs.Events.{opened}
+use Rattle.image.specs.Entries.{station-bytes, station-from, ballot-bytes, ballot-from}
+use Rattle.image.specs.Image.{image-of, record-in, no-image}
+
+-- a station with eight different values, at any stage
+abbrev pub some-station : Stage → Station
+some-station g =
+    record {
+      stage = g;
+      lost = true;
+      cursor = 7;
+      round = 9;
+      held = 0x01020304;
+      claim = 0x05060708;
+      word = 0x090a0b0c;
+      decision = 0x0d0e0f10;
+    }
+
+abbrev pub some-bytes : ℕ → List ℕ
+some-bytes stage = stage ∷ 1 ∷ 7 ∷ 9 ∷ 1 ∷ 2 ∷ 3 ∷ 4 ∷ 5 ∷ 6 ∷ 7 ∷ 8 ∷ 9 ∷ 10 ∷ 11 ∷ 12 ∷ 13 ∷ 14 ∷ 15 ∷ 16 ∷ []
+
+-- 899 bytes of version 1, all else 0 but for the byte at a place
+abbrev pub but-for : ℕ → ℕ → List ℕ
+but-for place x = set (1 ∷ replicate 898 0) place x
+
+pub record Bytes-shown : Type 0 where
+  -- stage, lost, cursor, round; held, claim, word, decision; both ways, whatever follows
+  pub station : station-bytes (some-station Seeking) ≡ some-bytes 4
+  pub station-read : station-from (some-bytes 4 ++ (99 ∷ [])) ≡ some-station Seeking
+  -- the stages in document 01's order; voting and awaiting on a finish ballot before decided
+  pub stages : map (λ (g : Stage). byte (station-bytes (some-station g)) 0) (Idle ∷ Waiting ∷ Voting ∷ Awaiting ∷ Seeking ∷ FinishVoting ∷ FinishAwaiting ∷ Decided ∷ [])
+      ≡ 0 ∷ 1 ∷ 2 ∷ 3 ∷ 4 ∷ 5 ∷ 6 ∷ 7 ∷ []
+  pub stages-read : map (λ (x : ℕ). station-from (some-bytes x) .stage) (0 ∷ 1 ∷ 2 ∷ 3 ∷ 4 ∷ 5 ∷ 6 ∷ 7 ∷ [])
+      ≡ Idle ∷ Waiting ∷ Voting ∷ Awaiting ∷ Seeking ∷ FinishVoting ∷ FinishAwaiting ∷ Decided ∷ []
+  -- 0 was cast, 1 was cast, answered, the answer
+  pub ballots : map ballot-bytes (record { cast0 = true; cast1 = false; answered = false; answer = false }
+      ∷ record { cast0 = false; cast1 = true; answered = false; answer = false }
+      ∷ record { cast0 = false; cast1 = false; answered = true; answer = false }
+      ∷ record { cast0 = false; cast1 = false; answered = false; answer = true } ∷ [])
+      ≡ (1 ∷ 0 ∷ 0 ∷ 0 ∷ []) ∷ (0 ∷ 1 ∷ 0 ∷ 0 ∷ []) ∷ (0 ∷ 0 ∷ 1 ∷ 0 ∷ []) ∷ (0 ∷ 0 ∷ 0 ∷ 1 ∷ []) ∷ []
+  pub ballot-read : ballot-from (1 ∷ 0 ∷ 1 ∷ 0 ∷ 9 ∷ []) ≡ record { cast0 = true; cast1 = false; answered = true; answer = false }
+  -- the version, n, the rule, and 896 bytes more
+  pub an-opening : image-of (opened 7 2 .settlement) ≡ 1 ∷ 7 ∷ 2 ∷ replicate 896 0
+  -- the last station's first byte and the last ballot's last one, which are read there
+  pub last-station : entry (record-in (but-for 623 7)) 31 .stage ≡ Decided
+  pub last-ballot : ballot (record-in (but-for 898 1)) 63 .answer ≡ true
+  -- another length: 80
+  pub nothing : no-image [] ≡ 80
+  pub short : no-image (1 ∷ replicate 897 0) ≡ 80
+  pub long : no-image (1 ∷ replicate 899 0) ≡ 80
+  -- another version: 81, whatever else
+  pub older : no-image (replicate 899 0) ≡ 81
+  pub newer : no-image (2 ∷ replicate 898 9) ≡ 81
+  -- a stage above 7, a mark above 1, in the first and the last entry: 42
+  pub first-stage : no-image (but-for 3 8) ≡ 42
+  pub last-stage : no-image (but-for 623 8) ≡ 42
+  pub first-lost : no-image (but-for 4 2) ≡ 42
+  pub last-lost : no-image (but-for 624 2) ≡ 42
+  pub first-mark : no-image (but-for 643 2) ≡ 42
+  pub last-mark : no-image (but-for 898 2) ≡ 42
+  -- and each other byte may be any
+  pub a-stage : no-image (but-for 623 7) ≡ 0
+  pub a-mark : no-image (but-for 624 1) ≡ 0
+  pub an-answer : no-image (but-for 898 1) ≡ 0
+  pub any-count : no-image (but-for 1 255) ≡ 0
+  pub any-number : no-image (but-for 642 255) ≡ 0
