@@ -7,8 +7,7 @@ use Rattle.basics.specs.Tests.{refuse}
 use Rattle.settlement.specs.declared.record.Settlement.{Settlement}
 use Rattle.settlement.specs.declared.record.Outcome.{Outcome}
 use Rattle.settlement.specs.Fault.{fault}
-use Rattle.settlement.specs.Events.{blank, opened}
-use Rattle.log.specs.Run.{ran}
+use Rattle.settlement.specs.Events.{blank}
 use Rattle.report.specs.Text.{text}
 use Rattle.image.specs.Image.{image-of, record-in, other-length, no-image, image-first}
 

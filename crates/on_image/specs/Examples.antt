@@ -1,0 +1,64 @@
+-- Events and LOOKs on an image byte by byte, in literal numbers, so that a definition that changes together with its code is noticed here.
+-- Assumes nothing.
+use Prim.Native.Nat.{ℕ, _+_, _*_, _<_}
+use mathlib.Core.Path.{_≡_}
+use mathlib.Core.Bool.{true}
+use mathlib.Core.List.{List, [], _∷_}
+use lib.ListN.{replicate, set}
+use Rattle.basics.specs.Bytes.{four-from}
+use Rattle.consensus.specs.Events.{claim, deliver, step, lose, answer}
+use Rattle.settlement.specs.declared.record.Standing.{Standing}
+use Rattle.on_image.specs.Events.{number-on, image-after}
+use Rattle.on_image.specs.Look.{looked-on, standing-bytes, standing-word, all-answer, all-after}
+
+-- the image of two stations by station that OPEN leaves, and what CLAIM 1, 0x01020304 leaves of it: station 1 begins at 23
+abbrev pub two : List ℕ
+two = 1 ∷ 2 ∷ 1 ∷ replicate 896 0
+
+abbrev pub claimed : List ℕ
+claimed = set (set (set (set (set two 23 1) 31 1) 32 2) 33 3) 34 4
+
+-- a station that decided 0x01020304 after five votes
+abbrev pub decided : Standing
+decided = record { number = 0; decided = true; claim = 0x01020304; votes = 5 }
+
+-- two stations by claim; station 1 has decided 7 in round 3: stage at 23, round at 26, decision from 39 on
+abbrev pub one-decided : List ℕ
+one-decided = set (set (set (1 ∷ 2 ∷ 2 ∷ replicate 896 0) 23 7) 26 3) 42 7
+
+pub record Looks-shown : Type 0 where
+  -- number, decided, votes, 0, and the claim high byte first; the word is those bytes in one number
+  pub bytes : standing-bytes decided ≡ 0 ∷ 1 ∷ 5 ∷ 0 ∷ 1 ∷ 2 ∷ 3 ∷ 4 ∷ []
+  pub word : standing-word decided ≡ 0x0001050001020304
+  pub word-is-bytes : (t : Standing) → t .claim < 4294967296
+      → standing-word t ≡ 4294967296 * four-from (standing-bytes t) 0 + four-from (standing-bytes t) 4
+  pub refused-word : standing-word (looked-on [] 0) ≡ 0x5000000000000000
+  pub nobody : standing-word (looked-on two 2) ≡ 0x0100000000000000
+  pub shown : standing-word (looked-on one-decided 1) ≡ 0x0001080000000007
+  -- all at once: eight bytes a station from the buffer's start on, every other byte as it was
+  pub all : all-after one-decided (replicate 18 9)
+      ≡ 0 ∷ 0 ∷ 0 ∷ 0 ∷ 0 ∷ 0 ∷ 0 ∷ 0 ∷ 0 ∷ 1 ∷ 8 ∷ 0 ∷ 0 ∷ 0 ∷ 0 ∷ 7 ∷ 9 ∷ 9 ∷ []
+  pub all-count : all-answer one-decided (replicate 18 9) ≡ 16
+  pub no-room : all-answer one-decided (replicate 15 9) ≡ 30 * 65536
+  pub no-room-left : all-after one-decided (replicate 15 9) ≡ replicate 15 9
+  pub all-80 : all-answer [] [] ≡ 80 * 65536
+  pub all-42 : all-answer (set two 1 33) [] ≡ 42 * 65536
+
+pub record Events-shown : Type 0 where
+  -- 80 and 81 before all else, and no byte is changed
+  pub short : number-on [] (lose 0) ≡ 80
+  pub short-left : image-after (7 ∷ []) (lose 0) ≡ 7 ∷ []
+  pub newer : number-on (set two 0 2) (lose 9) ≡ 81
+  -- 42, though there is no station 9 either
+  pub no-stage : number-on (set two 3 8) (lose 9) ≡ 42
+  pub no-rule : number-on (set two 2 3) (lose 9) ≡ 42
+  pub no-station : number-on two (lose 2) ≡ 1
+  -- CLAIM: the stage and four bytes; LOSE: the mark; DELIVER: bit 1 of held
+  pub claim-number : number-on two (claim 1 0x01020304) ≡ 0
+  pub claim-left : image-after two (claim 1 0x01020304) ≡ claimed
+  pub lose-left : image-after two (lose 0) ≡ set two 4 1
+  pub deliver-left : image-after claimed (deliver 1 0) ≡ set claimed 10 2
+  -- refused: every byte as it was
+  pub step-number : number-on claimed (step 1) ≡ 8
+  pub step-left : image-after claimed (step 1) ≡ claimed
+  pub answer-number : number-on two (answer 0 1) ≡ 12

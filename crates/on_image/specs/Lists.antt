@@ -1,0 +1,33 @@
+-- Lists of events on one image: "each event gets the settlement that the last one returned or left, and nobody else writes it in between"
+-- (document 01, "Lists of events"). Assumes nothing.
+use Prim.Native.Nat.{ℕ}
+use mathlib.Core.Path.{_≡_}
+use mathlib.Core.List.{List}
+use Rattle.consensus.specs.Events.{Event, History, start, _▷_, Opening, Openable}
+use Rattle.consensus.specs.Rules.{number, after}
+use Rattle.consensus.specs.Terms.{Beginning, Claims-fit}
+use Rattle.settlement.specs.Events.{opened}
+use Rattle.settlement.specs.Look.{looked}
+use Rattle.settlement.specs.Link.{rule-number, record-after}
+use Rattle.settlement.specs.Demands.{Demand3-of-records}
+use Rattle.image.specs.Image.{image-of}
+use Rattle.on_image.specs.Events.{number-on, image-after}
+use Rattle.on_image.specs.Look.{looked-on}
+
+-- OPEN left its image in the caller's bytes, which were then lent to each event of the list in turn: b stands there at the end
+abbrev pub Stands : Opening → History → List ℕ → Type 0
+Stands o start b = b ≡ image-of (opened (o .count) (rule-number (o .rule)) .settlement)
+Stands o (h ▷ e) b = (b₀ : List ℕ) × Stands o h b₀ × (b ≡ image-after b₀ e)
+
+-- Demand 3 of such a list: its words hold, and after every beginning g of the list the bytes are the image of the record that g leads to, and the next
+-- event's number and LOOK at each station are the play's, as `Demand3-of-records` has them of that record
+pub record Demand3-on-image (o : Opening) (h : History) : Type 0 where
+  pub demand : Demand3-of-records o h
+  pub left : (g : History) → Beginning g h → (b : List ℕ) → Stands o g b → b ≡ image-of (record-after o g)
+  pub numbers : (g : History) → Beginning g h → (b : List ℕ) → Stands o g b → (e : Event) → number-on b e ≡ number o (after o g) e
+  pub looks : (g : History) → Beginning g h → (b : List ℕ) → Stands o g b → (s : ℕ) → looked-on b s ≡ looked (record-after o g) s
+
+pub record Image-lists : Type 0 where
+  pub holds : (o : Opening) → Openable o → (h : History) → Claims-fit h → Demand3-on-image o h
+  -- some bytes stand there after every list
+  pub stands : (o : Opening) → Openable o → (h : History) → Claims-fit h → Stands o h (image-of (record-after o h))
