@@ -5,9 +5,9 @@ use mathlib.Core.List.{List, [], _∷_, _++_, append-nil}
 use native.Mathlib.Nat.{div-div-eq-div-mul, div-add-mod, mod-eq-of-lt, zero-add}
 use native.Mathlib.Omega.{arith}
 use lib.ListN.{length, take, drop, length-drop, drop-of-length-le}
-use lib.Seq.{sets, sets-eq, take-all, drop-drop}
+use lib.Seq.{sets, sets-eq, take-all, drop-drop, getD-drop}
 use borrow.Rule.Slice.PartMut.{putMid}
-use Rattle.basics.specs.Bytes.{four-bytes, four-of, over}
+use Rattle.basics.specs.Bytes.{four-of, over, In-bytes}
 
 -- a number is made of its bytes
 pub four-again : (v : ℕ) → v < 4294967296 → four-of (v / 16777216 % 256) (v / 65536 % 256) (v / 256 % 256) (v % 256) ≡ v
@@ -35,6 +35,10 @@ bytes-again x y z w hx hy hz hw =
     let two : v / 65536 ≡ 256 * x + y = sym (div-div-eq-div-mul v 256 256) ∙ rw one (without-last (256 * x + y) z hz) in
     let three : v / 16777216 ≡ x = sym (div-div-eq-div-mul v 65536 256) ∙ rw two (without-last x y hy) in
     (rw three (mod-eq-of-lt hx), rw two (last-byte x y hy), rw one (last-byte (256 * x + y) z hz), last-byte (256 * (256 * x + y) + z) w hw)
+
+-- what follows a place in bytes is bytes
+pub bytes-after : (n : ℕ) (b : List ℕ) → In-bytes b → In-bytes (drop n b)
+bytes-after n b h i = rw getD-drop (h (n + i))
 
 -- the part from a place on, to the end
 pub to-end : (place : ℕ) (l : List ℕ) → take (length l - place) (drop place l) ≡ drop place l

@@ -15,6 +15,7 @@ use Rattle.basics.specs.Below.{any-below}
 use Rattle.basics.specs.Tests.{refuse, first-met}
 use Rattle.basics.proofs.Below.{any-none, none-below}
 use Rattle.basics.proofs.Bools.{by-bool, or-false, not-false→true}
+use Rattle.basics.proofs.Bytes.{bytes-after}
 use Rattle.basics.proofs.Refusals.{refused-not}
 use Rattle.entry.specs.declared.entry.Station.{Station}
 use Rattle.entry.specs.declared.entry.Ballot.{Ballot}
@@ -46,9 +47,6 @@ is-image b e =
       first = eqb-true _ _ (not-false→true _ (two .0));
       read = three .0;
     }
-
-bytes-after : (n : ℕ) (b : List ℕ) → In-bytes b → In-bytes (drop n b)
-bytes-after n b h i = rw getD-drop (h (n + i))
 
 module _ (b : List ℕ) where
   -- the entries as the record has them

@@ -25,7 +25,7 @@ use Rattle.on_image.specs.Look.{looked-on}
 use Rattle.on_image.specs.Lists.{Stands, Demand3-on-image, Image-lists}
 use Rattle.on_image.proofs.Laws.{on-image}
 use Rattle.on_image.proofs.Looks.{image-shown}
-use Rattle.on_image.proofs.Fits.{after-fits}
+use Rattle.image.proofs.Fits.{after-fits}
 
 -- ---- one event on the image of a record whose numbers fit
 

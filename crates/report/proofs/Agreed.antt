@@ -34,7 +34,8 @@ use Rattle.field.specs.declared.field.Field.the-variants.{Play}
 use Rattle.field.specs.declared.read.Reading.the-variants.{Found}
 use Rattle.field.specs.Read.{found}
 use Rattle.log.specs.Run.{ran}
-use Rattle.log.specs.Demand.{Bytes, Spells, nothing, event, note, Unopened, Played}
+use Rattle.basics.specs.Bytes.{In-bytes}
+use Rattle.log.specs.Demand.{Spells, nothing, event, note, Unopened, Played}
 use Rattle.log.proofs.Played.{log-demand}
 use Rattle.report.specs.Quoted.{bytes-of}
 use Rattle.report.specs.Decimal.{decimal}
@@ -227,7 +228,7 @@ module _ (log : List ℕ) (x y : List ℕ) where
 abbrev run-text : List ℕ → Settlement → List ℕ
 run-text log r = text r (ran log limit .events) (ran log limit .taken) (ran log limit .status)
 
-agree : (log : List ℕ) → Bytes log → (p q : ℕ) (x y : List ℕ) → Listed (says-decided p x) (lines (report log)) → Listed (says-decided q y) (lines (report log))
+agree : (log : List ℕ) → In-bytes log → (p q : ℕ) (x y : List ℕ) → Listed (says-decided p x) (lines (report log)) → Listed (says-decided q y) (lines (report log))
     → Agrees log x y
 unfolding report
 agree log bytes p q x y = go (ltb limit (length log))

@@ -13,7 +13,8 @@ use Rattle.field.specs.declared.field.Field.the-variants.{Open, Play}
 use Rattle.field.specs.declared.read.Reading.the-variants.{Found}
 use Rattle.field.specs.Read.{found}
 use Rattle.log.specs.Run.{ran}
-use Rattle.log.specs.Demand.{Bytes, Spells}
+use Rattle.basics.specs.Bytes.{In-bytes}
+use Rattle.log.specs.Demand.{Spells}
 use Rattle.report.specs.Quoted.{bytes-of}
 use Rattle.report.specs.Decimal.{decimal}
 use Rattle.report.specs.Text.{named, presence}
@@ -47,7 +48,7 @@ Says v k x = (lost : Bool) × (x ≡ decimal v ++ named " votes " k ++ presence 
 
 pub record Decided-lines : Type 0 where
   -- two lines that begin with a number and `decided`
-  pub agree : (log : List ℕ) → Bytes log → (p q : ℕ) (x y : List ℕ)
+  pub agree : (log : List ℕ) → In-bytes log → (p q : ℕ) (x y : List ℕ)
       → Listed (decimal p ++ bytes-of " decided " ++ x) (lines (report log))
       → Listed (decimal q ++ bytes-of " decided " ++ y) (lines (report log))
       → (v : ℕ) × (k : ℕ) × Says v k x × Says v k y × Put-in-by-log log v

@@ -159,7 +159,7 @@ module _ (r : Settlement) (fits : Record-fits r) where
       (λ p. subst Record-fits (sym (demand1 .advanced r e (eqb-true _ 0 p))) (effect-fits e fit))
       (λ p. subst Record-fits (sym (demand1 .unchanged r e (eqb-false _ 0 p))) fits)
 
-fresh-fits : (n rule : ℕ) → n ≤ 32 → rule < 256 → Record-fits (fresh n rule)
+pub fresh-fits : (n rule : ℕ) → n ≤ 32 → rule < 256 → Record-fits (fresh n rule)
 fresh-fits n rule h l =
     record {
       count = omega arith;
