@@ -10,7 +10,7 @@ use borrow.Author.Tests.{eqb-true, eq-eqb, le-ltb}
 use lib.Dec.{eqb, ltb}
 use lib.ListN.{length, take, drop, getD, length-append, length-drop}
 use lib.Seq.{getD-drop, drop-drop, drop-at, take-all, take-add, drop-append-le}
-use Rattle.basics.specs.Bytes.{byte, In-bytes, over}
+use Rattle.basics.specs.Bytes.{byte, four-from, In-bytes, over}
 use Rattle.basics.specs.Below.{any-below}
 use Rattle.basics.specs.Tests.{refuse, first-met}
 use Rattle.basics.proofs.Below.{any-none, none-below}
@@ -209,6 +209,29 @@ abbrev or-else : Settlement → Option Settlement → Settlement
 or-else d none = d
 or-else d (some r) = r
 
+-- the numbers that bytes make fit
+four-fits : (b : List ℕ) (i : ℕ) → In-bytes b → four-from b i < 4294967296
+four-fits b i h = omega (arith, h i, h (i + 1), h (i + 2), h (i + 3))
+
+station-fits : (b : List ℕ) → In-bytes b → Station-fits (station-from b)
+unfolding station-from
+station-fits b h =
+    record { cursor = h 2; round = h 3; held = four-fits b 4 h; claim = four-fits b 8 h; word = four-fits b 12 h; decision = four-fits b 16 h }
+
+head-fits : (b : List ℕ) → In-bytes b → (record-in b .count < 256) × (record-in b .rule < 256)
+unfolding record-in
+head-fits b h = (h 1, h 2)
+
+record-fits : (b : List ℕ) → In-bytes b → Record-fits (record-in b)
+record-fits b h =
+    record {
+      count = head-fits b h .0;
+      rule = head-fits b h .1;
+      station-entries = stations-in b;
+      ballot-entries = ballots-in b;
+      stations = λ s l. subst Station-fits (sym (entry-in b s l)) (station-fits (drop (station-at s) b) (bytes-after (station-at s) b h));
+    }
+
 -- bytes with a record are an image of it
 of-bytes : (b : List ℕ) (r : Settlement) → In-bytes b → record-of b ≡ some r → image-of r ≡ b
 unfolding record-of
@@ -220,10 +243,21 @@ of-bytes b r in-bytes e = by-bool (eqb (no-image b) 0) yes no
     no : eqb (no-image b) 0 ≡ false → image-of r ≡ b
     no p = absurd (true≢false (sym (ap is-some (rw p at e))))
 
+fits : (b : List ℕ) (r : Settlement) → In-bytes b → record-of b ≡ some r → Record-fits r
+unfolding record-of
+fits b r in-bytes e = by-bool (eqb (no-image b) 0) yes no
+  where
+    yes : eqb (no-image b) 0 ≡ true → Record-fits r
+    yes p = subst Record-fits (ap (or-else r) (rw p at e)) (record-fits b in-bytes)
+
+    no : eqb (no-image b) 0 ≡ false → Record-fits r
+    no p = absurd (true≢false (sym (ap is-some (rw p at e))))
+
 pub round-trip : Round-trip
 unfolding record-of
 round-trip = record {
   of-record = λ r fits. rw (an-image r (fits .station-entries) (fits .ballot-entries), record-again r fits);
   of-bytes = of-bytes;
+  fits = fits;
   one-length = λ r fits. image-long r (fits .station-entries) (fits .ballot-entries);
 }

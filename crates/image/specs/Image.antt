@@ -8,11 +8,12 @@ use lib.Dec.{eqb}
 use lib.ListN.{length, drop, getD}
 use Rattle.basics.specs.Bytes.{byte, In-bytes}
 use Rattle.basics.specs.Below.{any-below}
-use Rattle.basics.specs.Tests.{Test, when, first-met}
+use Rattle.basics.specs.Tests.{Test, when, refuse, first-met}
 use Rattle.entry.specs.declared.entry.Station.{Station}
 use Rattle.entry.specs.declared.entry.Ballot.{Ballot}
 use Rattle.entry.specs.Entries.{station-entries, ballot-entries, blank-station}
 use Rattle.settlement.specs.declared.record.Settlement.{Settlement}
+use Rattle.settlement.specs.Fault.{fault}
 use Rattle.image.specs.Lists.{flat, cut}
 use Rattle.image.specs.Entries.{station-bytes, station-from, ballot-bytes, ballot-from, no-mark, station-unread}
 
@@ -30,7 +31,7 @@ abbrev pub station-at : ℕ → ℕ
 station-at s = 3 + station-width * s
 
 abbrev pub ballot-at : ℕ → ℕ
-ballot-at b = 3 + station-width * station-entries + ballot-width * b
+ballot-at b = station-at station-entries + ballot-width * b
 
 abbrev pub image-bytes : ℕ
 image-bytes = ballot-at ballot-entries
@@ -77,6 +78,10 @@ record-of b = cond (eqb (no-image b) 0) (some (record-in b)) none
 abbrev pub image-first : List ℕ → ℕ → ℕ
 image-first b number = cond (eqb (no-image b) 0) number (no-image b)
 
+-- and then the record test
+abbrev pub tested-first : List ℕ → ℕ → ℕ
+tested-first b number = image-first b (refuse (fault (record-in b)) 42 number)
+
 -- ---- both ways
 
 -- a record whose numbers fit their types
@@ -100,5 +105,7 @@ pub record Round-trip : Type 0 where
   pub of-record : (r : Settlement) → Record-fits r → record-of (image-of r) ≡ some r
   -- and bytes that are an image are that of their record, so that no two images are of one record
   pub of-bytes : (b : List ℕ) (r : Settlement) → In-bytes b → record-of b ≡ some r → image-of r ≡ b
+  -- the records that bytes have are those whose numbers fit
+  pub fits : (b : List ℕ) (r : Settlement) → In-bytes b → record-of b ≡ some r → Record-fits r
   -- an image is of one length
   pub one-length : (r : Settlement) → Record-fits r → length (image-of r) ≡ 899

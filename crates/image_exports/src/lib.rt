@@ -3,7 +3,7 @@
 ghost use mathlib.Core.Path.{_≡_};
 ghost use Rattle.consensus.specs.Events.{claim, deliver, step, lose, answer};
 ghost use Rattle.settlement.specs.Events.{opened};
-ghost use Rattle.on_image.specs.Events.{number-on, image-after};
+ghost use Rattle.on_image.specs.Events.{image-number, image-after};
 ghost use Rattle.on_image.specs.Look.{looked-on, standing-word, all-answer, all-after};
 ghost use Rattle.whole_image.specs.Whole.{stored-number, stored};
 use bits::word::Word;
@@ -27,7 +27,7 @@ pub extern "C" fn dagmuize_open(image: &mut [u8], n: u8, rule: u8) -> u8
 
 #[no_mangle]
 pub extern "C" fn dagmuize_claim(image: &mut [u8], s: u8, v: Word) -> u8
-    ensures { λ x. ⌜ x ≡ number-on (now (image .entry)) (claim s v) ⌝ }
+    ensures { λ x. ⌜ x ≡ image-number (now (image .entry)) (claim s v) ⌝ }
     ensures { λ _. ⌜ now (image .exit) ≡ image-after (now (image .entry)) (claim s v) ⌝ }
 {
     claim_on(image, s, v)
@@ -35,7 +35,7 @@ pub extern "C" fn dagmuize_claim(image: &mut [u8], s: u8, v: Word) -> u8
 
 #[no_mangle]
 pub extern "C" fn dagmuize_deliver(image: &mut [u8], t: u8, s: u8) -> u8
-    ensures { λ x. ⌜ x ≡ number-on (now (image .entry)) (deliver t s) ⌝ }
+    ensures { λ x. ⌜ x ≡ image-number (now (image .entry)) (deliver t s) ⌝ }
     ensures { λ _. ⌜ now (image .exit) ≡ image-after (now (image .entry)) (deliver t s) ⌝ }
 {
     deliver_on(image, t, s)
@@ -43,7 +43,7 @@ pub extern "C" fn dagmuize_deliver(image: &mut [u8], t: u8, s: u8) -> u8
 
 #[no_mangle]
 pub extern "C" fn dagmuize_step(image: &mut [u8], s: u8) -> u8
-    ensures { λ x. ⌜ x ≡ number-on (now (image .entry)) (step s) ⌝ }
+    ensures { λ x. ⌜ x ≡ image-number (now (image .entry)) (step s) ⌝ }
     ensures { λ _. ⌜ now (image .exit) ≡ image-after (now (image .entry)) (step s) ⌝ }
 {
     step_on(image, s)
@@ -51,7 +51,7 @@ pub extern "C" fn dagmuize_step(image: &mut [u8], s: u8) -> u8
 
 #[no_mangle]
 pub extern "C" fn dagmuize_lose(image: &mut [u8], s: u8) -> u8
-    ensures { λ x. ⌜ x ≡ number-on (now (image .entry)) (lose s) ⌝ }
+    ensures { λ x. ⌜ x ≡ image-number (now (image .entry)) (lose s) ⌝ }
     ensures { λ _. ⌜ now (image .exit) ≡ image-after (now (image .entry)) (lose s) ⌝ }
 {
     lose_on(image, s)
@@ -59,7 +59,7 @@ pub extern "C" fn dagmuize_lose(image: &mut [u8], s: u8) -> u8
 
 #[no_mangle]
 pub extern "C" fn dagmuize_answer(image: &mut [u8], b: u8, a: u8) -> u8
-    ensures { λ x. ⌜ x ≡ number-on (now (image .entry)) (answer b a) ⌝ }
+    ensures { λ x. ⌜ x ≡ image-number (now (image .entry)) (answer b a) ⌝ }
     ensures { λ _. ⌜ now (image .exit) ≡ image-after (now (image .entry)) (answer b a) ⌝ }
 {
     answer_on(image, b, a)

@@ -1,43 +1,34 @@
 -- Events and LOOKs on an image byte by byte: each row is computed. Assumes nothing.
-use Prim.Native.Nat.{ℕ, _+_, _*_, _<_}
-use mathlib.Core.Path.{_≡_, refl}
-use native.Mathlib.Omega.{arith}
+use mathlib.Core.Path.{refl}
 use Rattle.basics.specs.Below.{any-below}
-use Rattle.basics.specs.Bytes.{four-from}
 use Rattle.basics.specs.Tests.{first-met}
-use Rattle.basics.proofs.Bytes.{four-again}
 use Rattle.bits.specs.Digits.{digits-in, binary-digits, bit}
 use Rattle.bits.specs.Log.{least-from, ceil-log2}
 use Rattle.bits.specs.Words.{with-bit, low-agree, word-with-bit, member, insert}
 use Rattle.event.specs.Change.{own-after, ballot-after}
 use Rattle.event.specs.Step.{stepped, voted}
-use Rattle.settlement.specs.declared.record.Standing.{Standing}
 use Rattle.settlement.specs.Fault.{station-fault, fault}
 use Rattle.settlement.specs.Events.{outcome, number, effect, played}
 use Rattle.settlement.specs.Look.{votes, looked}
 use Rattle.image.specs.Lists.{flat, cut}
 use Rattle.image.specs.Entries.{stage-from, station-bytes, station-from, ballot-bytes, ballot-from}
 use Rattle.image.specs.Image.{image-of, record-in, unread, no-image}
-use Rattle.on_image.specs.Events.{number-on, image-after}
+use Rattle.on_image.specs.Events.{image-number, image-after}
 use Rattle.on_image.specs.Look.{looked-on, standing-bytes, standing-word, standings, all-number, all-after, all-answer}
 use Rattle.on_image.specs.Examples.{Looks-shown, Events-shown}
-
-word-is-bytes : (t : Standing) → t .claim < 4294967296
-    → standing-word t ≡ 4294967296 * four-from (standing-bytes t) 0 + four-from (standing-bytes t) 4
-unfolding standing-word standing-bytes
-word-is-bytes t h = rw (four-again (t .claim) h) (omega arith)
 
 pub looks-shown : Looks-shown
 unfolding any-below first-met bit least-from ceil-log2 station-fault fault votes looked flat cut stage-from station-from ballot-from record-in unread no-image looked-on standing-bytes standing-word standings all-number all-after all-answer
 looks-shown = record {
   bytes = refl;
   word = refl;
-  word-is-bytes = word-is-bytes;
   refused-word = refl;
   nobody = refl;
   shown = refl;
   all = refl;
   all-count = refl;
+  just-room = refl;
+  nobody-there = refl;
   no-room = refl;
   no-room-left = refl;
   all-80 = refl;
@@ -45,7 +36,7 @@ looks-shown = record {
 }
 
 pub events-shown : Events-shown
-unfolding any-below first-met digits-in binary-digits bit least-from ceil-log2 with-bit low-agree word-with-bit member insert own-after ballot-after stepped voted station-fault fault outcome number effect played flat cut stage-from station-bytes station-from ballot-bytes ballot-from image-of record-in unread no-image number-on image-after
+unfolding any-below first-met digits-in binary-digits bit least-from ceil-log2 with-bit low-agree word-with-bit member insert own-after ballot-after stepped voted station-fault fault outcome number effect played flat cut stage-from station-bytes station-from ballot-bytes ballot-from image-of record-in unread no-image image-number image-after
 events-shown = record {
   short = refl;
   short-left = refl;
@@ -60,4 +51,6 @@ events-shown = record {
   step-number = refl;
   step-left = refl;
   answer-number = refl;
+  vote-left = refl;
+  answer-left = refl;
 }

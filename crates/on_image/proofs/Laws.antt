@@ -18,7 +18,7 @@ use Rattle.settlement.specs.Fault.{station-fault, fault-at}
 use Rattle.image.specs.Entries.{stage-from, station-from, station-bytes, ballot-bytes}
 use Rattle.image.specs.Image.{station-at, ballot-at, image-of, record-in, no-image}
 use Rattle.image.proofs.Image.{is-image, entry-in, stations-in, ballots-in, image-again, station-stored, ballot-stored}
-use Rattle.on_image.specs.Events.{number-on, image-after}
+use Rattle.on_image.specs.Events.{image-number, image-after}
 
 pub two-stored : (b : List ℕ) → no-image b ≡ 0 → In-bytes b → (i : ℕ) (t : Station) (k : ℕ) (u : Ballot) → i < 32 → k < 64
     → over (ballot-at k) (ballot-bytes u) (over (station-at i) (station-bytes t) b) ≡ image-of (with-ballot k u (with-station i t (record-in b)))
@@ -51,11 +51,11 @@ fault-asked b s h =
     rw (entry-in b s h, getD-drop (station-at s) b 0 0, getD-drop (station-at s) b 2 0, getD-drop (station-at s) b 3 0, add-zero)
 
 module _ (b : List ℕ) (e : Event) where
-  pub no-image-first : (no-image b ≡ 0 → ⊥) → (no-image b ≡ number-on b e) × (b ≡ image-after b e)
-  unfolding number-on image-after
+  pub no-image-first : (no-image b ≡ 0 → ⊥) → (no-image b ≡ image-number b e) × (b ≡ image-after b e)
+  unfolding image-number image-after
   no-image-first n = (rw (ne-eqb (no-image b) 0 n), rw (ne-eqb (no-image b) 0 n, ne-eqb (no-image b) 0 n))
 
-  pub on-image : no-image b ≡ 0 → (played (record-in b) e .number ≡ number-on b e)
+  pub on-image : no-image b ≡ 0 → (played (record-in b) e .number ≡ image-number b e)
       × (cond (eqb (played (record-in b) e .number) 0) (image-of (played (record-in b) e .settlement)) b ≡ image-after b e)
-  unfolding number-on image-after
+  unfolding image-number image-after
   on-image z = (rw z, rw z)

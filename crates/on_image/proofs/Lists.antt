@@ -12,6 +12,7 @@ use Rattle.consensus.specs.Events.{Event, History, start, _▷_, Opening, Opena
 use Rattle.consensus.specs.Rules.{number, after}
 use Rattle.consensus.specs.Terms.{Beginning, Claims-fit}
 use Rattle.settlement.specs.declared.record.Settlement.{Settlement}
+use Rattle.settlement.specs.declared.record.Standing.{Standing}
 use Rattle.settlement.specs.Events.{played}
 use Rattle.settlement.specs.Look.{looked}
 use Rattle.settlement.specs.Link.{record-after}
@@ -20,7 +21,7 @@ use Rattle.settlement.proofs.Demand1.{demand1}
 use Rattle.settlement.proofs.Link.Demands.{demands}
 use Rattle.image.specs.Image.{image-of, record-in, no-image, Record-fits}
 use Rattle.image.proofs.Image.{an-image, record-again}
-use Rattle.on_image.specs.Events.{number-on, image-after}
+use Rattle.on_image.specs.Events.{image-number, image-after}
 use Rattle.on_image.specs.Look.{looked-on}
 use Rattle.on_image.specs.Lists.{Stands, Demand3-on-image, Image-lists}
 use Rattle.on_image.proofs.Laws.{on-image}
@@ -33,7 +34,7 @@ module _ (r : Settlement) (fits : Record-fits r) where
   there : no-image (image-of r) ≡ 0
   there = an-image r (fits .station-entries) (fits .ballot-entries)
 
-  pub same-number : (e : Event) → number-on (image-of r) e ≡ played r e .number
+  pub same-number : (e : Event) → image-number (image-of r) e ≡ played r e .number
   same-number e = sym (on-image (image-of r) e there .0) ∙ ap (λ (x : Settlement). played x e .number) (record-again r fits)
 
   -- accepted or refused, the image of what the event answers
@@ -69,16 +70,26 @@ module _ (o : Opening) (a : Openable o) (h : History) (f : Claims-fit h) where
   d : Demand3-of-records o h
   d = demands .demand3 o a h f
 
+  shows : (b : List ℕ) → Stands o h b → (s : ℕ) → looked-on b s ≡ looked (record-after o h) s
+  shows b s i = ap (λ (x : List ℕ). looked-on x i) (left o a h f b s) ∙ same-look (record-after o h) (after-fits o a h f) i
+
+  agree : (b : List ℕ) → Stands o h b → (p q : ℕ) → looked-on b p .decided ≡ true → looked-on b q .decided ≡ true → looked-on b p ≡ looked-on b q
+  agree b s p q dp dq =
+      let decided : (i : ℕ) → looked-on b i .decided ≡ true → looked (record-after o h) i .decided ≡ true =
+      (λ i e. sym (ap (λ (t : Standing). t .decided) (shows b s i)) ∙ e) in
+      shows b s p ∙ d .looks-agree p q (decided p dp) (decided q dq) ∙ sym (shows b s q)
+
   holds : Demand3-on-image o h
   holds = record {
     demand = d;
     left = λ g c b s. left o a g (beginning-fits g h c f) b s;
     numbers = λ g c b s e.
         let fit = beginning-fits g h c f in
-        ap (λ (x : List ℕ). number-on x e) (left o a g fit b s) ∙ same-number (record-after o g) (after-fits o a g fit) e ∙ d .told g c .numbers e;
+        ap (λ (x : List ℕ). image-number x e) (left o a g fit b s) ∙ same-number (record-after o g) (after-fits o a g fit) e ∙ d .told g c .numbers e;
     looks = λ g c b s i.
         let fit = beginning-fits g h c f in
         ap (λ (x : List ℕ). looked-on x i) (left o a g fit b s) ∙ same-look (record-after o g) (after-fits o a g fit) i;
+    looks-agree = agree;
   }
 
 pub image-lists : Image-lists

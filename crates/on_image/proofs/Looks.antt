@@ -2,12 +2,14 @@
 use Prim.Native.Nat.{ℕ, zero, suc, _+_, _*_, _≤_, _<_}
 use mathlib.Core.Path.{_≡_, refl, sym, ap, _∙_}
 use mathlib.Core.Bool.{Bool, true, false, cond, not}
-use mathlib.Core.List.{List}
-use native.Mathlib.Nat.{lt-of-lt-of-le, zero-add, add-zero, mul-suc}
-use borrow.Author.Tests.{eqb-true, eqb-false, ne-eqb, lt-ltb, ltb-true, ltb-false}
+use mathlib.Core.Logic.{⊎-elim}
+use mathlib.Core.List.{List, _++_, append-assoc}
+use native.Mathlib.Nat.{lt-of-lt-of-le, zero-add, add-zero, mul-suc, eq-or-lt-of-le, le-of-suc-le-suc, not-suc-le-zero}
+use native.Mathlib.Omega.{arith}
+use borrow.Author.Tests.{eqb-true, eqb-false, ne-eqb, lt-ltb, le-ltb, ltb-true, ltb-false}
 use lib.Dec.{eqb, ltb}
-use lib.ListN.{length, length-append}
-use lib.Seq.{sets, sets-eq}
+use lib.ListN.{length, take, drop, length-append}
+use lib.Seq.{sets, sets-eq, take-at, drop-at}
 use Rattle.basics.specs.Bytes.{byte, over}
 use Rattle.basics.specs.Tests.{refuse, first-met}
 use Rattle.basics.proofs.Bools.{by-bool, not-false→true}
@@ -19,8 +21,8 @@ use Rattle.settlement.specs.Record.{entry}
 use Rattle.settlement.specs.Fault.{fault}
 use Rattle.settlement.specs.Look.{look-tests, standing, turned-away, looked}
 use Rattle.settlement.proofs.Range.{few-stations}
-use Rattle.image.specs.Image.{record-in, no-image}
-use Rattle.on_image.specs.Look.{looked-on, standing-bytes, standings, all-number, all-after, all-answer}
+use Rattle.image.specs.Image.{other-length, version, record-in, unread, no-image}
+use Rattle.on_image.specs.Look.{looked-on, standing-bytes, standings, all-number, all-after, all-answer, Looks}
 
 module _ (r : Settlement) (s : ℕ) where
   abbrev tested : ℕ
@@ -101,10 +103,10 @@ module _ (b out : List ℕ) where
   pub record Room : Type 0 where
     pub an-image : no-image b ≡ 0
     pub passes : fault (record-in b) ≡ false
-    pub fits : 8 * byte b 1 ≤ length out
+    pub fits : 8 * record-in b .count ≤ length out
 
   abbrev later : ℕ
-  later = refuse (fault (record-in b)) 42 (refuse (ltb (length out) (8 * byte b 1)) 30 0)
+  later = refuse (fault (record-in b)) 42 (refuse (ltb (length out) (8 * record-in b .count)) 30 0)
 
   cond-0 : (k x : ℕ) → cond (eqb k 0) x k ≡ 0 → (k ≡ 0) × (x ≡ 0)
   cond-0 k x e = by-bool (eqb k 0) (λ p. (eqb-true k 0 p, rw p at e)) (λ p. absurd (eqb-false k 0 p (rw p at e)))
@@ -113,8 +115,8 @@ module _ (b out : List ℕ) where
   unfolding all-number
   room z =
       let both = cond-0 (no-image b) later z in
-      let one = refused-not (fault (record-in b)) 42 (refuse (ltb (length out) (8 * byte b 1)) 30 0) refl (both .1) in
-      let two = refused-not (ltb (length out) (8 * byte b 1)) 30 0 refl (one .1) in
+      let one = refused-not (fault (record-in b)) 42 (refuse (ltb (length out) (8 * record-in b .count)) 30 0) refl (both .1) in
+      let two = refused-not (ltb (length out) (8 * record-in b .count)) 30 0 refl (one .1) in
       record { an-image = both .0; passes = one .0; fits = ltb-false _ _ (two .0) }
 
   pub all-refused : (all-number b out ≡ 0 → ⊥) → (65536 * all-number b out ≡ all-answer b out) × (out ≡ all-after b out)
@@ -122,8 +124,60 @@ module _ (b out : List ℕ) where
   all-refused n = let e = ne-eqb (all-number b out) 0 n in (rw (e, add-zero), rw e)
 
   pub all-written : all-number b out ≡ 0
-      → (8 * byte b 1 ≡ all-answer b out) × (sets out 0 (standings (looked (record-in b)) (byte b 1)) ≡ all-after b out)
+      → (8 * record-in b .count ≡ all-answer b out) × (sets out 0 (standings (looked (record-in b)) (record-in b .count)) ≡ all-after b out)
   unfolding all-answer all-after
   all-written z =
-      let t = standings (looked (record-in b)) (byte b 1) in
+      let t = standings (looked (record-in b)) (record-in b .count) in
       (rw (z, zero-add), rw z (sets-eq t out 0 (rw (standings-long, zero-add) (room z .fits))))
+
+eight : (t : Standing) → length (standing-bytes t) ≡ 8
+unfolding standing-bytes
+eight t = refl
+
+-- the bytes of each station stand at its place
+piece : (f : ℕ → Standing) (n s : ℕ) → s < n → (rest : List ℕ) → take 8 (drop (8 * s) (standings f n ++ rest)) ≡ standing-bytes (f s)
+unfolding standings
+piece f zero s h rest = absurd (not-suc-le-zero h)
+piece f (suc n) s h rest =
+    ap (λ (l : List ℕ). take 8 (drop (8 * s) l)) (append-assoc (standings f n) (standing-bytes (f n)) rest)
+    ∙ ⊎-elim last (λ l. piece f n s l (standing-bytes (f n) ++ rest)) (eq-or-lt-of-le (le-of-suc-le-suc h))
+  where
+    last : s ≡ n → take 8 (drop (8 * s) (standings f n ++ (standing-bytes (f n) ++ rest))) ≡ standing-bytes (f s)
+    last e = rw (e, drop-at (standings f n) (standing-bytes (f n) ++ rest) (8 * n) (standings-long f n), take-at (standing-bytes (f n)) rest 8 (eight (f n)))
+
+not-30 : (b : List ℕ) → no-image b ≡ 30 → ⊥
+unfolding no-image first-met
+not-30 b e = three (other-length b) (not (eqb (byte b 0) version)) (unread b) e
+  where
+    three : (x y z : Bool) → refuse x 80 (refuse y 81 (refuse z 42 0)) ≡ 30 → ⊥
+    three true y z e = omega (arith, e)
+    three false true z e = omega (arith, e)
+    three false false true e = omega (arith, e)
+    three false false false e = omega (arith, e)
+
+enough : (b out : List ℕ) → 256 ≤ length out → all-number b out ≡ 30 → ⊥
+unfolding all-number
+enough b out h e = by-bool (eqb (no-image b) 0) yes no
+  where
+    tested-e : fault (record-in b) ≡ true → refuse (fault (record-in b)) 42 (refuse (ltb (length out) (8 * record-in b .count)) 30 0) ≡ 30 → ⊥
+    tested-e f e = omega (arith, rw f at e)
+
+    fits-e : fault (record-in b) ≡ false → refuse (fault (record-in b)) 42 (refuse (ltb (length out) (8 * record-in b .count)) 30 0) ≡ 30 → ⊥
+    fits-e f e =
+        let few = few-stations (record-in b) f in
+        let room : ltb (length out) (8 * record-in b .count) ≡ false = le-ltb (length out) (8 * record-in b .count) (omega (arith, few)) in
+        omega (arith, rw (f, room) at e)
+
+    yes : eqb (no-image b) 0 ≡ true → ⊥
+    yes p = by-bool (fault (record-in b)) (λ f. tested-e f (rw p at e)) (λ f. fits-e f (rw p at e))
+
+    no : eqb (no-image b) 0 ≡ false → ⊥
+    no p = not-30 b (rw p at e)
+
+each : (b out : List ℕ) → all-number b out ≡ 0 → (s : ℕ) → s < record-in b .count → take 8 (drop (8 * s) (all-after b out)) ≡ standing-bytes (looked-on b s)
+unfolding all-after
+each b out z s h =
+    rw (z, image-shown b s (room b out z .an-image)) (piece (looked (record-in b)) (record-in b .count) s h _)
+
+pub looks : Looks
+looks = record { enough = enough; each = each }

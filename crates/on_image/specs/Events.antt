@@ -9,9 +9,9 @@ use Rattle.settlement.specs.Events.{played}
 use Rattle.image.specs.Image.{image-of, record-in, image-first}
 
 -- what the bytes are if they are no image, else what the event says of the record
-unfoldable pub number-on : List ℕ → Event → ℕ
-number-on b e = image-first b (played (record-in b) e .number)
+unfoldable pub image-number : List ℕ → Event → ℕ
+image-number b e = image-first b (played (record-in b) e .number)
 
 -- accepted, the image of the next record; refused, every byte as it was
 unfoldable pub image-after : List ℕ → Event → List ℕ
-image-after b e = cond (eqb (number-on b e) 0) (image-of (played (record-in b) e .settlement)) b
+image-after b e = cond (eqb (image-number b e) 0) (image-of (played (record-in b) e .settlement)) b

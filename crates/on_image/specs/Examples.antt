@@ -1,14 +1,13 @@
 -- Events and LOOKs on an image byte by byte, in literal numbers, so that a definition that changes together with its code is noticed here.
 -- Assumes nothing.
-use Prim.Native.Nat.{ℕ, _+_, _*_, _<_}
+use Prim.Native.Nat.{ℕ, _*_}
 use mathlib.Core.Path.{_≡_}
 use mathlib.Core.Bool.{true}
 use mathlib.Core.List.{List, [], _∷_}
 use lib.ListN.{replicate, set}
-use Rattle.basics.specs.Bytes.{four-from}
 use Rattle.consensus.specs.Events.{claim, deliver, step, lose, answer}
 use Rattle.settlement.specs.declared.record.Standing.{Standing}
-use Rattle.on_image.specs.Events.{number-on, image-after}
+use Rattle.on_image.specs.Events.{image-number, image-after}
 use Rattle.on_image.specs.Look.{looked-on, standing-bytes, standing-word, all-answer, all-after}
 
 -- the image of two stations by station that OPEN leaves, and what CLAIM 1, 0x01020304 leaves of it: station 1 begins at 23
@@ -26,12 +25,17 @@ decided = record { number = 0; decided = true; claim = 0x01020304; votes = 5 }
 abbrev pub one-decided : List ℕ
 one-decided = set (set (set (1 ∷ 2 ∷ 2 ∷ replicate 896 0) 23 7) 26 3) 42 7
 
+-- station 1 votes in ballot 0, its cursor on itself: bit 0 of 1 is cast
+abbrev pub voting : List ℕ
+voting = set (set two 23 2) 25 1
+
+abbrev pub voted : List ℕ
+voted = set (set voting 23 3) 644 1
+
 pub record Looks-shown : Type 0 where
   -- number, decided, votes, 0, and the claim high byte first; the word is those bytes in one number
   pub bytes : standing-bytes decided ≡ 0 ∷ 1 ∷ 5 ∷ 0 ∷ 1 ∷ 2 ∷ 3 ∷ 4 ∷ []
   pub word : standing-word decided ≡ 0x0001050001020304
-  pub word-is-bytes : (t : Standing) → t .claim < 4294967296
-      → standing-word t ≡ 4294967296 * four-from (standing-bytes t) 0 + four-from (standing-bytes t) 4
   pub refused-word : standing-word (looked-on [] 0) ≡ 0x5000000000000000
   pub nobody : standing-word (looked-on two 2) ≡ 0x0100000000000000
   pub shown : standing-word (looked-on one-decided 1) ≡ 0x0001080000000007
@@ -39,6 +43,8 @@ pub record Looks-shown : Type 0 where
   pub all : all-after one-decided (replicate 18 9)
       ≡ 0 ∷ 0 ∷ 0 ∷ 0 ∷ 0 ∷ 0 ∷ 0 ∷ 0 ∷ 0 ∷ 1 ∷ 8 ∷ 0 ∷ 0 ∷ 0 ∷ 0 ∷ 7 ∷ 9 ∷ 9 ∷ []
   pub all-count : all-answer one-decided (replicate 18 9) ≡ 16
+  pub just-room : all-answer one-decided (replicate 16 9) ≡ 16
+  pub nobody-there : all-answer (1 ∷ 0 ∷ 1 ∷ replicate 896 0) [] ≡ 0
   pub no-room : all-answer one-decided (replicate 15 9) ≡ 30 * 65536
   pub no-room-left : all-after one-decided (replicate 15 9) ≡ replicate 15 9
   pub all-80 : all-answer [] [] ≡ 80 * 65536
@@ -46,19 +52,22 @@ pub record Looks-shown : Type 0 where
 
 pub record Events-shown : Type 0 where
   -- 80 and 81 before all else, and no byte is changed
-  pub short : number-on [] (lose 0) ≡ 80
+  pub short : image-number [] (lose 0) ≡ 80
   pub short-left : image-after (7 ∷ []) (lose 0) ≡ 7 ∷ []
-  pub newer : number-on (set two 0 2) (lose 9) ≡ 81
+  pub newer : image-number (set two 0 2) (lose 9) ≡ 81
   -- 42, though there is no station 9 either
-  pub no-stage : number-on (set two 3 8) (lose 9) ≡ 42
-  pub no-rule : number-on (set two 2 3) (lose 9) ≡ 42
-  pub no-station : number-on two (lose 2) ≡ 1
+  pub no-stage : image-number (set two 3 8) (lose 9) ≡ 42
+  pub no-rule : image-number (set two 2 3) (lose 9) ≡ 42
+  pub no-station : image-number two (lose 2) ≡ 1
   -- CLAIM: the stage and four bytes; LOSE: the mark; DELIVER: bit 1 of held
-  pub claim-number : number-on two (claim 1 0x01020304) ≡ 0
+  pub claim-number : image-number two (claim 1 0x01020304) ≡ 0
   pub claim-left : image-after two (claim 1 0x01020304) ≡ claimed
   pub lose-left : image-after two (lose 0) ≡ set two 4 1
   pub deliver-left : image-after claimed (deliver 1 0) ≡ set claimed 10 2
   -- refused: every byte as it was
-  pub step-number : number-on claimed (step 1) ≡ 8
+  pub step-number : image-number claimed (step 1) ≡ 8
   pub step-left : image-after claimed (step 1) ≡ claimed
-  pub answer-number : number-on two (answer 0 1) ≡ 12
+  pub answer-number : image-number two (answer 0 1) ≡ 12
+  -- a vote: the stage, and the mark of the bit; its ANSWER: two marks
+  pub vote-left : image-after voting (step 1) ≡ voted
+  pub answer-left : image-after voted (answer 0 1) ≡ set (set voted 645 1) 646 1

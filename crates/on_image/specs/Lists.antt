@@ -2,6 +2,7 @@
 -- (document 01, "Lists of events"). Assumes nothing.
 use Prim.Native.Nat.{ℕ}
 use mathlib.Core.Path.{_≡_}
+use mathlib.Core.Bool.{true}
 use mathlib.Core.List.{List}
 use Rattle.consensus.specs.Events.{Event, History, start, _▷_, Opening, Openable}
 use Rattle.consensus.specs.Rules.{number, after}
@@ -11,7 +12,7 @@ use Rattle.settlement.specs.Look.{looked}
 use Rattle.settlement.specs.Link.{rule-number, record-after}
 use Rattle.settlement.specs.Demands.{Demand3-of-records}
 use Rattle.image.specs.Image.{image-of}
-use Rattle.on_image.specs.Events.{number-on, image-after}
+use Rattle.on_image.specs.Events.{image-number, image-after}
 use Rattle.on_image.specs.Look.{looked-on}
 
 -- OPEN left its image in the caller's bytes, which were then lent to each event of the list in turn: b stands there at the end
@@ -24,8 +25,10 @@ Stands o (h ▷ e) b = (b₀ : List ℕ) × Stands o h b₀ × (b ≡ image-afte
 pub record Demand3-on-image (o : Opening) (h : History) : Type 0 where
   pub demand : Demand3-of-records o h
   pub left : (g : History) → Beginning g h → (b : List ℕ) → Stands o g b → b ≡ image-of (record-after o g)
-  pub numbers : (g : History) → Beginning g h → (b : List ℕ) → Stands o g b → (e : Event) → number-on b e ≡ number o (after o g) e
+  pub numbers : (g : History) → Beginning g h → (b : List ℕ) → Stands o g b → (e : Event) → image-number b e ≡ number o (after o g) e
   pub looks : (g : History) → Beginning g h → (b : List ℕ) → Stands o g b → (s : ℕ) → looked-on b s ≡ looked (record-after o g) s
+  -- so two stations that LOOK says have decided show one claim and the same number of votes
+  pub looks-agree : (b : List ℕ) → Stands o h b → (p q : ℕ) → looked-on b p .decided ≡ true → looked-on b q .decided ≡ true → looked-on b p ≡ looked-on b q
 
 pub record Image-lists : Type 0 where
   pub holds : (o : Opening) → Openable o → (h : History) → Claims-fit h → Demand3-on-image o h

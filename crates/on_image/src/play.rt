@@ -5,7 +5,7 @@ ghost use lib.Dec.{eqb};
 ghost use Rattle.event.specs.Meant.{meant};
 ghost use Rattle.settlement.specs.Events.{played};
 ghost use Rattle.image.specs.Image.{image-of, record-in, no-image};
-ghost use Rattle.on_image.specs.Events.{number-on, image-after};
+ghost use Rattle.on_image.specs.Events.{image-number, image-after};
 use crate::fault::faulty_in;
 use crate::place::ballot_in;
 use crate::place::station_in;
@@ -57,7 +57,7 @@ fn play_in(image: &mut [u8], e: Event) -> u8
 }
 
 pub fn play(image: &mut [u8], e: Event) -> u8
-    ensures { λ x. ⌜ x ≡ number-on (now (image .entry)) (meant e) ⌝ }
+    ensures { λ x. ⌜ x ≡ image-number (now (image .entry)) (meant e) ⌝ }
     ensures { λ _. ⌜ now (image .exit) ≡ image-after (now (image .entry)) (meant e) ⌝ }
 {
     let number = no_image(image);

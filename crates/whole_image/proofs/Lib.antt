@@ -1,5 +1,9 @@
 -- Laws that belong to no one function.
 --     Partly    a list whose first entries are already those of another
 --     Reading   what was read off bytes, and the number with which they are reported
+--     Lists     OPEN and a log beside lists of events on one image
+--     Examples  what is stored and reported, in literals
 pub mod Partly
 pub mod Reading
+pub mod Lists
+pub mod Examples

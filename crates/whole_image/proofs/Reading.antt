@@ -32,11 +32,11 @@ first-told false k r s = refl
 
 module _ (b : List ℕ) where
   pub report-told : refuse (not (eqb (read-record b .number) 0)) (read-record b .number) (refuse (fault (read-record b .settlement)) 42 0) ≡ report-number b
-  unfolding read-record report-number
+  unfolding read-record outcome report-number
   report-told = first-told (eqb (no-image b) 0) (no-image b) (record-in b) blank
 
   pub report-read : report-number b ≡ 0 → read-record b .settlement ≡ record-in b
-  unfolding read-record report-number
+  unfolding read-record outcome report-number
   report-read e = by-bool (eqb (no-image b) 0) yes no
     where
       yes : eqb (no-image b) 0 ≡ true → read-record b .settlement ≡ record-in b

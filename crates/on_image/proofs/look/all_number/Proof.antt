@@ -3,6 +3,7 @@ use mathlib.Core.Path.{_≡_, refl, sym, ap, _∙_}
 use denote.Ref.{now}
 use native.Mathlib.Omega.{arith}
 use borrow.Author.Tests.{ne-eqb}
+use Rattle.image.specs.Image.{record-in}
 use Rattle.image.proofs.Image.{is-image}
 use Rattle.on_image.specs.Look.{all-number}
 use borrow.Author.Needs.{needs}
@@ -26,7 +27,7 @@ faulty-in-requires : tie.Need-faulty-in-requires
 faulty-in-requires c κs = is-image (now (c .before .before .before .before .before .args .image)) (sym (c .before .before .no-image .ensures) ∙ c .before .if1 .left) .size
 
 returns-2 : tie.Need-returns-2
-unfolding all-number
+unfolding all-number record-in
 returns-2 c =
     let zero = sym (c .before .before .before .before .before .no-image .ensures) ∙ c .before .before .before .before .if1 .left in
     rw (c .refuse2 .ensures, c .before .refuse .ensures, c .before .before .faulty-in .ensures, zero)

@@ -2,6 +2,7 @@
 use mathlib.Core.Path.{_≡_, refl, sym, _∙_}
 use denote.Ref.{now}
 use native.Mathlib.Omega.{arith}
+use Rattle.image.specs.Image.{record-in}
 use Rattle.image.proofs.Image.{is-image}
 use Rattle.on_image.proofs.Looks.{room, all-refused, all-written}
 use borrow.Author.Needs.{needs}
@@ -30,6 +31,7 @@ mul-result-2 : tie.Need-mul-result-2
 mul-result-2 c = let l = c .before .before .before .before .shared-slice-known2 .given 1 in record { fits = omega (arith, l) }
 
 returns-2 : tie.Need-returns-2
+unfolding record-in
 returns-2 c =
     let start = c .before .before .before .before .before .before .before .before .before .before in
     let both = all-written (now (start .args .image)) (now (start .args .out)) (sym (c .before .before .before .before .before .before .all-number .ensures) ∙ c .before .before .before .before .before .if1 .left) in

@@ -1,6 +1,7 @@
 -- `whole_image::record::read_record`: bytes that are an image are long enough to be read. Assumes nothing.
 use mathlib.Core.Path.{sym, _∙_}
 use borrow.Author.Tests.{ne-eqb}
+use Rattle.settlement.specs.Events.{outcome}
 use Rattle.image.specs.Image.{record-in}
 use Rattle.whole_image.specs.Whole.{read-record}
 use Rattle.whole_image.proofs.Reading.{image-size, opened-blank}
@@ -9,7 +10,7 @@ use Rattle.whole_image.proofs.record.read_record.Statement.{statement}
 use Rattle.whole_image.proofs.record.read_record.Tie as tie
 
 returns : tie.Need-returns
-unfolding read-record
+unfolding read-record outcome
 returns c =
     let n = c .before .before .before .no-image .ensures in
     rw (n, c .before .before .«open» .ensures, ne-eqb _ _ (rw n at (c .if1 .taken)), opened-blank)
@@ -31,7 +32,7 @@ with-ballots-requires : tie.Need-with-ballots-requires
 with-ballots-requires c κs = image-size _ (c .before .before .before .before .before .before .no-image .ensures) (c .before .before .before .if1 .left)
 
 returns-2 : tie.Need-returns-2
-unfolding read-record record-in
+unfolding read-record outcome record-in
 returns-2 c =
     let n = c .before .before .before .before .before .before .before .no-image .ensures in
     let z = c .before .before .before .before .if1 .left in
