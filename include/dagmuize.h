@@ -85,10 +85,10 @@ static inline uint32_t dagmuize_look_claim(uint64_t look) { return (uint32_t)(lo
 
 /* LOOK at every station: the eight bytes of each answer, highest first, station after station from the start of out. The answer is 65,536 times the
    number (80, 81, 42, then 30 where out has fewer than 8 bytes for each station), plus the bytes written. Refused: no byte is written and the
-   count is 0. */
+   count is 0. 256 bytes are always enough. */
 uint32_t dagmuize_look_all(const uint8_t *image, size_t image_len, uint8_t *out, size_t out_len);
 
-/* Station s of what dagmuize_look_all wrote, as LOOK answers it. */
+/* Station s of what dagmuize_look_all wrote, as LOOK answers it: s is below n, and the number was 0. */
 static inline uint64_t dagmuize_look_of(const uint8_t *out, uint8_t s) {
     uint64_t look = 0;
     for (size_t i = 0; i < 8; i++) look = look << 8 | out[8 * (size_t)s + i];
