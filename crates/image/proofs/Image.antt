@@ -6,7 +6,7 @@ use mathlib.Core.List.{List, [], _∷_, _++_, append-nil, append-assoc}
 use mathlib.Core.Option.{Option, some, none}
 use native.Mathlib.Omega.{arith}
 use native.Mathlib.Numerals.{add-one}
-use borrow.Author.Tests.{eqb-true, eq-eqb, le-ltb}
+use borrow.Author.Tests.{eqb-true, eq-eqb, ne-eqb, le-ltb}
 use lib.Dec.{eqb, ltb}
 use lib.ListN.{length, take, drop, getD, length-append, length-drop}
 use lib.Seq.{getD-drop, drop-drop, drop-at, take-all, take-add, drop-append-le}
@@ -24,7 +24,7 @@ use Rattle.settlement.specs.declared.record.Settlement.{Settlement}
 use Rattle.settlement.specs.Record.{entry, ballot, with-station, with-ballot}
 use Rattle.image.specs.Lists.{flat, cut}
 use Rattle.image.specs.Entries.{station-bytes, station-from, ballot-bytes, ballot-from, no-mark, station-unread}
-use Rattle.image.specs.Image.{station-at, ballot-at, image-of, record-in, unread, no-image, record-of, Station-fits, Record-fits, Round-trip}
+use Rattle.image.specs.Image.{station-at, ballot-at, image-of, record-in, unread, no-image, record-of, Station-fits, Record-fits, Round-trip, Numbers-told}
 use Rattle.image.proofs.Lists.{over-later, over-earlier, first-bytes, length-cut, getD-cut, length-flat, flat-set, flat-at, cut-flat, flat-cut}
 use Rattle.image.proofs.Entries.{station-wide, station-again, station-there, station-reads, ballot-wide, ballot-again, ballot-there, ballots-read}
 
@@ -260,4 +260,18 @@ round-trip = record {
   of-bytes = of-bytes;
   fits = fits;
   one-length = λ r fits. image-long r (fits .station-entries) (fits .ballot-entries);
+}
+
+-- ---- which number
+
+marked : (u : Bool) → (refuse u 42 0 ≡ 0 → ⊥) → refuse u 42 0 ≡ 42
+marked true n = refl
+marked false n = absurd (n refl)
+
+pub numbers-told : Numbers-told
+unfolding no-image first-met
+numbers-told = record {
+  another-length = λ b n. rw (ne-eqb (length b) 899 n);
+  another-version = λ b e n. rw (e, ne-eqb (byte b 0) 1 n);
+  nothing-else = λ b e v n. rw (e, v) (marked (unread b) (rw (e, v) at n));
 }

@@ -109,3 +109,9 @@ pub record Round-trip : Type 0 where
   pub fits : (b : List ℕ) (r : Settlement) → In-bytes b → record-of b ≡ some r → Record-fits r
   -- an image is of one length
   pub one-length : (r : Settlement) → Record-fits r → length (image-of r) ≡ 899
+
+-- bytes that are no image: another length is 80, another version 81, and all else 42
+pub record Numbers-told : Type 0 where
+  pub another-length : (b : List ℕ) → (length b ≡ 899 → ⊥) → no-image b ≡ 80
+  pub another-version : (b : List ℕ) → length b ≡ 899 → (byte b 0 ≡ 1 → ⊥) → no-image b ≡ 81
+  pub nothing-else : (b : List ℕ) → length b ≡ 899 → byte b 0 ≡ 1 → (no-image b ≡ 0 → ⊥) → no-image b ≡ 42

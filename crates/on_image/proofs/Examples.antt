@@ -27,6 +27,7 @@ looks-shown = record {
   shown = refl;
   all = refl;
   all-count = refl;
+  all-of-32 = refl;
   just-room = refl;
   nobody-there = refl;
   no-room = refl;

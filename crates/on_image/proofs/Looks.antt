@@ -1,5 +1,5 @@
 -- What LOOK on an image answers, by its tests: bytes that are no image, a refusal, and a station inside the array. Assumes nothing.
-use Prim.Native.Nat.{ℕ, zero, suc, _+_, _*_, _≤_, _<_}
+use Prim.Native.Nat.{ℕ, zero, suc, _+_, _*_, _/_, _%_, _≤_, _<_}
 use mathlib.Core.Path.{_≡_, refl, sym, ap, _∙_}
 use mathlib.Core.Bool.{Bool, true, false, cond, not}
 use mathlib.Core.Logic.{⊎-elim}
@@ -22,7 +22,9 @@ use Rattle.settlement.specs.Fault.{fault}
 use Rattle.settlement.specs.Look.{look-tests, standing, turned-away, looked}
 use Rattle.settlement.proofs.Range.{few-stations}
 use Rattle.image.specs.Image.{other-length, version, record-in, unread, no-image}
-use Rattle.on_image.specs.Look.{looked-on, standing-bytes, standings, all-number, all-after, all-answer, Looks}
+use Rattle.basics.proofs.Bytes.{four-again}
+use Rattle.image.specs.Entries.{mark-byte}
+use Rattle.on_image.specs.Look.{looked-on, standing-bytes, standings, all-number, all-after, all-answer, Looks, standing-word, Word-again}
 
 module _ (r : Settlement) (s : ℕ) where
   abbrev tested : ℕ
@@ -181,3 +183,29 @@ each b out z s h =
 
 pub looks : Looks
 looks = record { enough = enough; each = each }
+
+-- ---- the word read again
+
+small : (m : Bool) → mark-byte m < 256
+small true = omega arith
+small false = omega arith
+
+parts : (n d v c : ℕ) → n < 256 → d < 256 → v < 256 → c < 4294967296
+    → ((4294967296 * (256 * (256 * (256 * n + d) + v) + 0) + c) / 72057594037927936 ≡ n)
+    × ((4294967296 * (256 * (256 * (256 * n + d) + v) + 0) + c) / 281474976710656 % 256 ≡ d)
+    × ((4294967296 * (256 * (256 * (256 * n + d) + v) + 0) + c) / 1099511627776 % 256 ≡ v)
+    × ((4294967296 * (256 * (256 * (256 * n + d) + v) + 0) + c) % 4294967296 ≡ c)
+parts n d v c hn hd hv hc = (omega arith, omega arith, omega arith, omega arith)
+
+spelled : (t : Standing) → t .claim < 4294967296
+    → standing-word t ≡ 4294967296 * (256 * (256 * (256 * t .number + mark-byte (t .decided)) + t .votes) + 0) + t .claim
+unfolding standing-word standing-bytes
+spelled t h = rw (four-again (t .claim) h)
+
+pub word-again : Word-again
+word-again = record {
+  number = λ t hn hv hc. rw (spelled t hc) (parts (t .number) (mark-byte (t .decided)) (t .votes) (t .claim) hn (small (t .decided)) hv hc .0);
+  decided = λ t hn hv hc. rw (spelled t hc) (parts (t .number) (mark-byte (t .decided)) (t .votes) (t .claim) hn (small (t .decided)) hv hc .1);
+  votes = λ t hn hv hc. rw (spelled t hc) (parts (t .number) (mark-byte (t .decided)) (t .votes) (t .claim) hn (small (t .decided)) hv hc .2);
+  claim = λ t hn hv hc. rw (spelled t hc) (parts (t .number) (mark-byte (t .decided)) (t .votes) (t .claim) hn (small (t .decided)) hv hc .3);
+}

@@ -43,6 +43,7 @@ pub record Looks-shown : Type 0 where
   pub all : all-after one-decided (replicate 18 9)
       ≡ 0 ∷ 0 ∷ 0 ∷ 0 ∷ 0 ∷ 0 ∷ 0 ∷ 0 ∷ 0 ∷ 1 ∷ 8 ∷ 0 ∷ 0 ∷ 0 ∷ 0 ∷ 7 ∷ 9 ∷ 9 ∷ []
   pub all-count : all-answer one-decided (replicate 18 9) ≡ 16
+  pub all-of-32 : all-answer (1 ∷ 32 ∷ 1 ∷ replicate 896 0) (replicate 256 9) ≡ 256
   pub just-room : all-answer one-decided (replicate 16 9) ≡ 16
   pub nobody-there : all-answer (1 ∷ 0 ∷ 1 ∷ replicate 896 0) [] ≡ 0
   pub no-room : all-answer one-decided (replicate 15 9) ≡ 30 * 65536

@@ -1,5 +1,5 @@
 -- LOOK at one station of an image, and at all of them at once. Assumes nothing.
-use Prim.Native.Nat.{ℕ, zero, suc, _+_, _*_, _≤_, _<_}
+use Prim.Native.Nat.{ℕ, zero, suc, _+_, _*_, _/_, _%_, _≤_, _<_}
 use mathlib.Core.Path.{_≡_}
 use mathlib.Core.Bool.{cond}
 use mathlib.Core.List.{List, [], _∷_, _++_}
@@ -49,3 +49,10 @@ pub record Looks : Type 0 where
   -- the eight bytes of each station are LOOK's answer
   pub each : (b out : List ℕ) → all-number b out ≡ 0 → (s : ℕ) → s < record-in b .count
       → take 8 (drop (8 * s) (all-after b out)) ≡ standing-bytes (looked-on b s)
+
+-- an answer whose numbers fit is read off its word
+pub record Word-again : Type 0 where
+  pub number : (t : Standing) → t .number < 256 → t .votes < 256 → t .claim < 4294967296 → standing-word t / 72057594037927936 ≡ t .number
+  pub decided : (t : Standing) → t .number < 256 → t .votes < 256 → t .claim < 4294967296 → standing-word t / 281474976710656 % 256 ≡ mark-byte (t .decided)
+  pub votes : (t : Standing) → t .number < 256 → t .votes < 256 → t .claim < 4294967296 → standing-word t / 1099511627776 % 256 ≡ t .votes
+  pub claim : (t : Standing) → t .number < 256 → t .votes < 256 → t .claim < 4294967296 → standing-word t % 4294967296 ≡ t .claim
