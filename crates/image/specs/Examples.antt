@@ -8,7 +8,6 @@ use Rattle.basics.specs.Bytes.{byte}
 use Rattle.entry.specs.declared.entry.Stage.{Stage}
 use Rattle.entry.specs.declared.entry.Stage.the-variants.{Idle, Waiting, Voting, Awaiting, Seeking, FinishVoting, FinishAwaiting, Decided}
 use Rattle.entry.specs.declared.entry.Station.{Station}
-use Rattle.entry.specs.declared.entry.Ballot.{Ballot}
 use Rattle.settlement.specs.Record.{entry, ballot}
 use Rattle.settlement.specs.Events.{opened}
 use Rattle.image.specs.Entries.{station-bytes, station-from, ballot-bytes, ballot-from}

@@ -1,6 +1,4 @@
 // Where things stand in an image.
-ghost use mathlib.Core.Path.{_≡_};
-ghost use Rattle.image.specs.Image.{station-at, ballot-at};
 use entry::entry::BALLOT_ENTRIES;
 use entry::entry::STATION_ENTRIES;
 

@@ -1,9 +1,8 @@
 // Which bytes are no image.
 ghost use mathlib.Core.Path.{_≡_};
-ghost use Prim.Native.Nat.{_≤_};
 ghost use lib.ListN.{length, drop};
 ghost use Rattle.basics.specs.Below.{any-below};
-ghost use Rattle.basics.specs.Bytes.{byte, In-bytes};
+ghost use Rattle.basics.specs.Bytes.{byte};
 ghost use Rattle.entry.specs.Entries.{station-entries};
 ghost use Rattle.image.specs.Entries.{no-mark, station-unread};
 ghost use Rattle.image.specs.Image.{station-at, image-bytes, no-image};

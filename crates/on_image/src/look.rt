@@ -1,6 +1,5 @@
 // LOOK at one station of an image, and at all of them at once.
 ghost use mathlib.Core.Path.{_≡_};
-ghost use Prim.Native.Nat.{_≤_};
 ghost use mathlib.Core.Bool.{false};
 ghost use lib.ListN.{length};
 ghost use Rattle.basics.specs.Bytes.{byte};
@@ -8,7 +7,7 @@ ghost use Rattle.basics.specs.Tests.{first-met};
 ghost use Rattle.basics.specs.Written.{Wrote};
 ghost use Rattle.settlement.specs.Fault.{fault};
 ghost use Rattle.settlement.specs.Look.{look-tests, looked};
-ghost use Rattle.image.specs.Image.{image-bytes, record-in, no-image};
+ghost use Rattle.image.specs.Image.{image-bytes, record-in};
 ghost use Rattle.on_image.specs.Look.{looked-on, standing-bytes, standing-word, standings, all-number, all-after, all-answer};
 use crate::fault::faulty_in;
 use crate::place::station_in;

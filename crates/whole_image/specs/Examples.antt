@@ -1,8 +1,7 @@
 -- What is stored and what is reported, in literal numbers and letters, so that a definition that changes together with its code is noticed here.
 -- Assumes nothing.
-use Prim.Native.Nat.{ℕ}
 use mathlib.Core.Path.{_≡_}
-use mathlib.Core.List.{List, [], _∷_}
+use mathlib.Core.List.{[], _∷_}
 use lib.ListN.{replicate, set}
 use Rattle.settlement.specs.Events.{blank, opened}
 use Rattle.report.specs.Quoted.{bytes-of}
