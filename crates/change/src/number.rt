@@ -44,10 +44,11 @@ pub(crate) fn answer_number(v: View, b: u8, a: u8) -> u8
     ensures { λ x. ⌜ x ≡ first-met (answer-tests v b a) ⌝ }
 {
     let ballot = v.ballot;
+    let yes = a == 1;
     let later = refuse(
-        ballot.answered,
+        ballot.answered & (ballot.answer != yes),
         11,
-        refuse(!was_cast(ballot, a == 1), 12, 0),
+        refuse(!ballot.answered & !was_cast(ballot, yes), 12, 0),
     );
     let i = b as usize;
     refuse(

@@ -1,19 +1,21 @@
--- "An event was accepted" is what the play's state shows: held, put in, lost, answered. Each is made by one kind of event and stays,
--- so one law serves all four. Assumes nothing.
-use Prim.Native.Nat.{ℕ, suc, _+_, _%_}
+-- "An event was accepted" is what the play's state shows: held, put in, lost, answered, answered with a bit. Each is made by one kind
+-- of event and stays, so one law serves all five. Assumes nothing.
+use Prim.Native.Nat.{ℕ, suc, _+_, _%_, _≤_}
 use mathlib.Core.Path.{_≡_, refl, sym, subst, _∙_, ap}
 use mathlib.Core.Logic.{_⊎_, inl, inr, _↔_}
 use mathlib.Core.Bool.{Bool, true, false, _&&_}
-use mathlib.Core.Option.{Option}
+use mathlib.Core.Option.{Option, some, Option·none-ne-some, Option·some-injective}
+use native.Mathlib.Omega.{arith}
 use lib.Dec.{eqb}
+use borrow.Author.Tests.{eqb-true, eqb-false}
 use Rattle.bits.specs.Words.{low-agree}
 use Rattle.consensus.specs.Events.{Event, claim, deliver, step, lose, answer, History, start, _▷_, Rule, rule-1, rule-2, Opening, rounds}
 use Rattle.consensus.specs.State.{Stage, idle, waiting, voting, awaiting, seeking, finish-voting, finish-awaiting, decided, Station, State, fresh, not-idle, claimed, claim-of, held, answered, bit-of}
-use Rattle.consensus.specs.Rules.{number, finish-ballot, spelled, first-stage, stage-after-seek, sought, finished, claiming, holding, losing, step-from, effect, next, after}
-use Rattle.consensus.specs.Terms.{Happened, Put-in, Holds, Lost, Answered}
+use Rattle.consensus.specs.Rules.{as-bit, number, finish-ballot, spelled, first-stage, stage-after-seek, sought, finished, claiming, holding, losing, step-from, effect, next, after}
+use Rattle.consensus.specs.Terms.{Happened, Put-in, Holds, Lost, Answered, Repeat}
 use Rattle.consensus.proofs.Basics.{update-ind, update-same}
-use Rattle.basics.proofs.Bools.{cond-ind, no-clash}
-use Rattle.consensus.proofs.Reached.{next-ind, claim-accepted}
+use Rattle.basics.proofs.Bools.{by-bool, cond-ind, no-clash}
+use Rattle.consensus.proofs.Reached.{Stands, Answer-first, next-ind, claim-accepted, answer-accepted}
 use Rattle.consensus.proofs.Station.{next-accepted}
 
 -- A mark of the state that events of the kind E make, that nothing takes away, and that nothing else makes.
@@ -115,7 +117,15 @@ part-ind C o st s (lose i) old c d p l =
     update-ind C (st .station) i _ s (λ q. subst (λ (x : ℕ). C (losing (st .station x))) q (l (ap lose (sym q)))) (λ ne. old)
 part-ind C o st s (answer b a) old c d p l = old
 
--- ---- the four marks
+-- a number that is 0 or 1 is told by its bit
+one-bit : (c a : ℕ) → c ≤ 1 → a ≤ 1 → as-bit c ≡ as-bit a → c ≡ a
+one-bit c a l m e = by-bool (eqb c 1) (λ p. eqb-true c 1 p ∙ sym (eqb-true a 1 (sym e ∙ p)))
+    (λ p. let x = eqb-false c 1 p in let y = eqb-false a 1 (sym e ∙ p) in zero c l x ∙ sym (zero a m y))
+  where
+    zero : (n : ℕ) → n ≤ 1 → (n ≡ 1 → ⊥) → n ≡ 0
+    zero n l x = omega arith
+
+-- ---- the five marks
 
 module _ (o : Opening) where
   held-mark : (s t : ℕ) → Mark o (λ e. e ≡ deliver t s) (λ st. held st s t ≡ true)
@@ -236,4 +246,56 @@ module _ (o : Opening) where
   answered-shown b h = (
     λ a. marked o _ _ (answer-mark b) h _ (a .0, refl) (a .1),
     λ x. let r = marker o _ _ (answer-mark b) h x in (r .1 .0, subst (λ (e : Event). Happened o e h) (r .1 .1) (r .2)),
+  )
+
+  -- an ANSWER of the bit that stands was accepted before, and its number is 0 or 1
+  abbrev Gives : (b a : ℕ) → Event → Type 0
+  Gives b a e = (c : ℕ) × (e ≡ answer b c) × (as-bit c ≡ as-bit a)
+
+  stands-mark : (b a : ℕ) → Mark o (Gives b a) (λ st. Stands o st b a)
+  unfolding effect
+  stands-mark b a = record {
+    made = λ st e k n.
+        subst (λ (x : Event). Stands o (effect o st x) b a) (sym (k .1)) (update-same (st .answer-of) b _ ∙ ap (λ (y : Bool). some y) (k .2));
+    kept = λ st e n x. kept st x e n;
+    only = λ st e n x. only st e x;
+    unmarked = λ x. Option·none-ne-some _ x;
+  }
+    where
+      same : (st : State) (c : ℕ) → Stands o st b a → Stands o st b c ⊎ Answer-first o st b c → _≡_ {A = Option Bool} (some (as-bit c)) (some (as-bit a))
+      same st c x (inl y) = sym y ∙ x
+      same st c x (inr y) = absurd (Option·none-ne-some _ (sym (y .unanswered) ∙ x))
+
+      kept : (st : State) → Stands o st b a → (e : Event) → number o st e ≡ 0 → Stands o (effect o st e) b a
+      kept st x (claim s v) n = x
+      kept st x (deliver t s) n = x
+      kept st x (step s) n = x
+      kept st x (lose s) n = x
+      kept st x (answer d c) n =
+          update-ind (λ (y : Option Bool). y ≡ some (as-bit a)) (st .answer-of) d _ b
+          (λ q. same st c x (answer-accepted o st b c (subst (λ (i : ℕ). number o st (answer i c) ≡ 0) (sym q) n) .how))
+          (λ ne. x)
+
+      only : (st : State) (e : Event) → Stands o (effect o st e) b a → Stands o st b a ⊎ Gives b a e
+      only st (claim s v) x = inl x
+      only st (deliver t s) x = inl x
+      only st (step s) x = inl x
+      only st (lose s) x = inl x
+      only st (answer d c) x =
+          update-ind (λ (y : Option Bool). y ≡ some (as-bit a) → Stands o st b a ⊎ Gives b a (answer d c)) (st .answer-of) d _ b
+          (λ q y. inr (c, ap (λ (i : ℕ). answer i c) (sym q), Option·some-injective _ _ y))
+          (λ ne y. inl y) x
+
+  small-bit : (b a : ℕ) (h : History) → Happened o (answer b a) h → a ≤ 1
+  small-bit b a start x = absurd x
+  small-bit b a (h ▷ e) (inl x) = small-bit b a h x
+  small-bit b a (h ▷ e) (inr x) = answer-accepted o (after o h) b a (subst (λ (f : Event). number o (after o h) f ≡ 0) (x .0) (x .1)) .bit
+
+  pub repeats-shown : (b a : ℕ) (h : History) → Repeat o (answer b a) h ↔ ((a ≤ 1) × Stands o (after o h) b a)
+  repeats-shown b a h = (
+    λ x. (small-bit b a h x, marked o _ _ (stands-mark b a) h _ (a, refl, refl) x),
+    λ x.
+        let r = marker o _ _ (stands-mark b a) h (x .1) in
+        let y = subst (λ (e : Event). Happened o e h) (r .1 .1) (r .2) in
+        subst (λ (c : ℕ). Happened o (answer b c) h) (one-bit (r .1 .0) a (small-bit b _ h y) (x .0) (r .1 .2)) y,
   )

@@ -22,7 +22,7 @@ use Rattle.basics.proofs.Below.{any-found, any-none}
 use Rattle.consensus.proofs.Reached.{reached}
 use Rattle.consensus.proofs.Beginnings.{beginning-followed, followed-beginning, fit-claims, claims-fit}
 use Rattle.consensus.proofs.Listed.{voted-told, took-told}
-use Rattle.consensus.proofs.Accepted.{put-in-shown, holds-shown, lost-shown, answered-shown}
+use Rattle.consensus.proofs.Accepted.{put-in-shown, holds-shown, lost-shown, answered-shown, repeats-shown}
 use Rattle.consensus.proofs.Told.{first-answer-shown, waits-shown, decided-shown, shown-decided}
 use Rattle.consensus.proofs.Longest.{fit-beginning, put-longest, longest-put}
 use Rattle.consensus.proofs.Agree.{agreement, validity, answered as all-answered, cost-by}
@@ -135,6 +135,7 @@ told = record {
     lost = λ s. lost-shown o s h;
     is-answered = λ b. answered-shown o b h;
     first = first-answer-shown o h;
+    repeats = λ b a. repeats-shown o b a h;
     waits = λ p. waits-shown o p h;
     voted = λ p. voted-told o p h;
     took = λ p. took-told o p h;

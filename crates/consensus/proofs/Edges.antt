@@ -1,6 +1,8 @@
 -- The edges of the words of demand 3, computed. Assumes nothing.
 use Prim.Native.Nat.{ℕ, _*_, _≤_}
 use mathlib.Core.Path.{_≡_, refl, ap, _∙_}
+use mathlib.Core.Bool.{true, false, true≢false}
+use mathlib.Core.Option.{some, Option·none-ne-some, Option·some-injective}
 use mathlib.Core.List.{List, [], _∷_}
 use native.Mathlib.Nat.{le-antisymm}
 use native.Mathlib.Omega.{arith}
@@ -9,13 +11,15 @@ use Rattle.bits.specs.Digits.{bit, bit-length, binary-digits, digits-in}
 use Rattle.bits.specs.Words.{with-bit, low-agree}
 use Rattle.bits.specs.Log.{ceil-log2, least-from}
 use Rattle.basics.specs.Below.{any-below}
-use Rattle.consensus.specs.Events.{rule-1, rule-2}
+use Rattle.consensus.specs.Events.{lose, answer, History, start, _▷_, rule-1, rule-2, Opening}
 use Rattle.consensus.specs.State.{update}
-use Rattle.consensus.specs.Rules.{stage-number, number, step-from, effect, next, after}
-use Rattle.consensus.specs.Terms.{first-answer, voted-in, waits-on, answers-taken, longest}
+use Rattle.consensus.specs.Rules.{as-bit, stage-number, number, step-from, effect, next, after}
+use Rattle.consensus.specs.Terms.{Repeat, first-answer, voted-in, waits-on, answers-taken, longest}
 use Rattle.consensus.specs.Demand3.{first-ballots, Ballots-voted}
 use Rattle.consensus.specs.Examples.{opening, lone-of-three, lone-two-bits}
-use Rattle.consensus.specs.Edges.{Openings, Longest-claims, Bounds, case-C, Costs-met, Sameness}
+use Rattle.consensus.specs.Edges.{Openings, Longest-claims, Bounds, case-C, Costs-met, one-voted, one-took, Sameness, Repeats}
+use Rattle.consensus.specs.Rows.{case-D}
+use Rattle.consensus.proofs.Accepted.{repeats-shown}
 use Rattle.consensus.proofs.Told.{shown-decided}
 use Rattle.consensus.proofs.Agree.{length-up-to}
 
@@ -79,4 +83,25 @@ sameness = record {
   other-claim = λ x. let e = x .claim in omega arith;
   other-ballots = λ x. let e = ap length (x .ballots) in omega arith;
   other-answers = λ x. let e = ap length (x .answers) in omega arith;
+}
+
+-- ---- repeats
+
+-- a repeat is an ANSWER of the bit that stands, and what stands is computed
+stands : (o : Opening) (h : History) (b a : ℕ) → Repeat o (answer b a) h → after o h .answer-of b ≡ some (as-bit a)
+stands o h b a x = repeats-shown o b a h .0 x .1
+
+pub repeats : Repeats
+unfolding bit binary-digits digits-in with-bit low-agree ceil-log2 least-from update any-below stage-number number step-from effect next after
+repeats = record {
+  same-bit = repeats-shown (opening 2 rule-1) 0 1 one-took .1 (omega arith, refl);
+  once-more = repeats-shown (opening 2 rule-1) 0 1 (one-took ▷ answer 0 1 ▷ lose 0 ▷ lose 1) .1 (omega arith, refl);
+  by-claim = repeats-shown (opening 2 rule-2) 1 0 case-D .1 (omega arith, refl);
+  first = λ x. Option·none-ne-some true (stands (opening 2 rule-1) one-voted 0 1 x);
+  refused = λ x. Option·none-ne-some true (stands (opening 2 rule-1) (start ▷ answer 0 1) 0 1 x);
+  other-bit = λ x. true≢false (Option·some-injective true false (stands (opening 2 rule-1) one-took 0 0 x));
+  other-ballot = λ x. Option·none-ne-some true (stands (opening 2 rule-2) case-D 4 1 x);
+  above-1 = λ o h b x. let small = repeats-shown o b 2 h .0 x .0 in omega arith;
+  lost-again = λ x. x;
+  held-again = λ x. x;
 }

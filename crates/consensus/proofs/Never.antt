@@ -2,7 +2,7 @@
 -- ballot, since it tells of a claim with a bit that no claim has. So no event meets 42 either. Assumes nothing.
 use Prim.Native.Nat.{ℕ, suc, _*_}
 use mathlib.Core.Path.{_≡_, refl, sym, _∙_, ap}
-use mathlib.Core.Bool.{Bool, true, false, not, _||_}
+use mathlib.Core.Bool.{Bool, true, false, not, _||_, Bool·beq}
 use mathlib.Core.Option.{Option, none, some}
 use native.Mathlib.Omega.{arith}
 use lib.Dec.{eqb, ltb}
@@ -10,7 +10,7 @@ use borrow.Author.Tests.{eqb-false, ne-eqb, lt-ltb}
 use Rattle.bits.specs.Words.{claim-bits}
 use Rattle.consensus.specs.Events.{Event, claim, deliver, step, lose, answer, History, Rule, rule-2, Opening, rounds, ballots, ballots-by}
 use Rattle.consensus.specs.State.{Stage, idle, waiting, voting, awaiting, seeking, finish-voting, finish-awaiting, decided, not-idle, claimed, held, answered}
-use Rattle.consensus.specs.Rules.{bit-ballot, finish-ballot, no-station, was-cast, as-bit, last-refusal, stage-number, number, after}
+use Rattle.consensus.specs.Rules.{bit-ballot, finish-ballot, no-station, was-cast, as-bit, last-refusal, answer-number, stage-number, number, after}
 use Rattle.basics.specs.Tests.{refuse}
 use Rattle.consensus.specs.Terms.{Claims-fit, Put-in, Lost, Decided, Supplied}
 use Rattle.consensus.specs.Told.{awaited}
@@ -96,6 +96,10 @@ module _ (o : Opening) (h : History) (fit : Claims-fit h) where
       refuse-other (not (answered (after o h .answer-of (finish-ballot k)))) 8 _ refl (λ q. zero-other (sym (last-passes (x .stage .0) k _ refl) ∙ q)) e
   stage-other p (decided v k) x e = omega arith
 
+  answer-other : (y : Option Bool) (a c : Bool) → answer-number y a c ≡ 42 → ⊥
+  answer-other none a c e = refuse-other (not c) 12 0 refl zero-other e
+  answer-other (some x) a c e = refuse-other (not (Bool·beq x a)) 11 0 refl zero-other e
+
   lost-test : ℕ → Bool
   lost-test s = after o h .station s .lost
 
@@ -113,6 +117,5 @@ module _ (o : Opening) (h : History) (fit : Claims-fit h) where
   no-42 (lose s) e = refuse-other (no-station o s) _ _ refl (refuse-other (lost-test s) _ 0 refl zero-other) e
   no-42 (answer b a) e =
       refuse-other (not (ltb b (ballots o))) 9 _ refl
-      (refuse-other (ltb 1 a) _ _ refl
-      (refuse-other (answered (after o h .answer-of b)) _ _ refl (refuse-other (not (was-cast o (after o h) b (as-bit a))) 12 0 refl zero-other)))
+      (refuse-other (ltb 1 a) _ _ refl (answer-other (after o h .answer-of b) (as-bit a) (was-cast o (after o h) b (as-bit a))))
       e

@@ -1,14 +1,15 @@
 -- Every event keeps the invariant, and a fresh state has it: so it holds of every state reached from an opening.
 -- Assumes nothing.
 use Prim.Native.Nat.{ℕ, suc, _<_, _≤_}
-use mathlib.Core.Path.{_≡_, refl, sym, subst, _∙_, ap}
-use mathlib.Core.Bool.{Bool, true, false}
+use mathlib.Core.Path.{_≡_, refl, sym, subst, _∙_, ap, fun-ext}
+use mathlib.Core.Logic.{_⊎_, inl, inr}
+use mathlib.Core.Bool.{Bool, true, false, Bool·beq}
 use mathlib.Core.Option.{Option, none, some, Option·none-ne-some}
 use lib.Dec.{eqb, ltb}
-use borrow.Author.Tests.{eqb-true, ltb-true}
+use borrow.Author.Tests.{eqb-true, ltb-true, ltb-false, lt-ltb, le-ltb}
 use Rattle.consensus.specs.Events.{Event, claim, deliver, step, lose, answer, History, start, _▷_, Opening, ballots}
-use Rattle.consensus.specs.State.{Stage, idle, waiting, voting, awaiting, seeking, finish-voting, finish-awaiting, decided, State, fresh, not-idle, claimed, held, answered, update, set-station}
-use Rattle.consensus.specs.Rules.{no-station, was-cast, is-bit, as-bit, stage-number, number, claiming, holding, losing, step-from, effect, next, after}
+use Rattle.consensus.specs.State.{Stage, idle, waiting, voting, awaiting, seeking, finish-voting, finish-awaiting, decided, State, fresh, not-idle, claimed, held, update, set-station}
+use Rattle.consensus.specs.Rules.{no-station, was-cast, is-bit, as-bit, answer-number, stage-number, number, claiming, holding, losing, step-from, effect, next, after}
 use Rattle.consensus.proofs.Basics.{update-ind, is-bit-some}
 use Rattle.basics.proofs.Bools.{cond-ind, no-clash, not-false→true, or-false}
 use Rattle.basics.proofs.Refusals.{refused-not}
@@ -24,6 +25,10 @@ unfolding next
 next-ind C o st e old new = cond-ind C (eqb (number o st e) 0) (effect o st e) st (λ p. new (eqb-true _ 0 p)) (λ p. old)
 
 -- ---- what an accepted event tells
+
+same-bit : (a : Bool) → Bool·beq a a ≡ true
+same-bit true = refl
+same-bit false = refl
 
 pub station-below : (o : Opening) (s : ℕ) → no-station o s ≡ false → s < o .count
 station-below o s e = ltb-true s (o .count) (not-false→true (ltb s (o .count)) e)
@@ -88,36 +93,52 @@ module _ (o : Opening) (st : State) where
       let b = refused-not _ _ _ refl (a .1) in
       record { station = station-below o s (a .0); live = b .0 }
 
-  pub record Answer-accepted (b a : ℕ) : Type 0 where
-    pub ballot : b < ballots o
-    pub bit : a ≤ 1
-    pub unanswered : answered (st .answer-of b) ≡ false
+  -- an ANSWER of the bit that stands, and the first one: nothing stands, and a voter cast the bit
+  abbrev pub Stands : (b a : ℕ) → Type 0
+  Stands b a = st .answer-of b ≡ some (as-bit a)
+
+  pub record Answer-first (b a : ℕ) : Type 0 where
+    pub unanswered : st .answer-of b ≡ none
     pub voter : ℕ
     pub below : voter < o .count
     pub was-cast : st .station voter .cast b ≡ some (as-bit a)
+
+  pub record Answer-accepted (b a : ℕ) : Type 0 where
+    pub ballot : b < ballots o
+    pub bit : a ≤ 1
+    pub how : Stands b a ⊎ Answer-first b a
+
+  answer-how : (b a : ℕ) (y : Option Bool) → st .answer-of b ≡ y → answer-number y (as-bit a) (was-cast o st b (as-bit a)) ≡ 0 → Stands b a ⊎ Answer-first b a
+  answer-how b a none q e =
+      let f = any-found (o .count) (λ s. is-bit (as-bit a) (st .station s .cast b)) (not-false→true _ (refused-not _ _ _ refl e .0)) in
+      inr (record { unanswered = q; voter = f .0; below = f .1; was-cast = is-bit-some (as-bit a) _ (f .2) })
+  answer-how b a (some x) q e = inl (q ∙ is-bit-some (as-bit a) (some x) (not-false→true (Bool·beq x (as-bit a)) (refused-not _ _ _ refl e .0)))
 
   pub answer-accepted : (b a : ℕ) → number o st (answer b a) ≡ 0 → Answer-accepted b a
   unfolding number
   answer-accepted b a e =
       let p = refused-not _ _ _ refl e in
       let q = refused-not _ _ _ refl (p .1) in
-      let r = refused-not _ _ _ refl (q .1) in
-      let t = refused-not _ _ _ refl (r .1) in
-      let f = any-found (o .count) (λ s. is-bit (as-bit a) (st .station s .cast b)) (not-false→true _ (t .0)) in
       record {
         ballot = ltb-true b _ (not-false→true _ (p .0));
-        bit = borrow.Author.Tests.ltb-false 1 a (q .0);
-        unanswered = r .0;
-        voter = f .0;
-        below = f .1;
-        was-cast = is-bit-some (as-bit a) _ (f .2);
+        bit = ltb-false 1 a (q .0);
+        how = answer-how b a (st .answer-of b) refl (q .1);
       }
 
--- ---- each event keeps the invariant
+  -- the bit that stands is accepted again
+  pub again-accepted : (b a : ℕ) → b < ballots o → a ≤ 1 → Stands b a → number o st (answer b a) ≡ 0
+  unfolding number
+  again-accepted b a l m e = rw (lt-ltb b (ballots o) l, le-ltb 1 a m, e, same-bit (as-bit a))
 
-pub unanswered-none : (x : Option Bool) → answered x ≡ false → x ≡ none
-unanswered-none none e = refl
-unanswered-none (some a) e = no-clash true refl e
+  -- and changes nothing
+  pub answer-again : (b a : ℕ) → Stands b a → effect o st (answer b a) ≡ st
+  unfolding effect
+  answer-again b a e = λ i. record {
+    station = st .station;
+    answer-of = fun-ext (λ c. update-ind (λ (y : Option Bool). y ≡ st .answer-of c) (st .answer-of) b _ c (λ q. sym e ∙ ap (st .answer-of) (sym q)) (λ ne. refl)) i;
+  }
+
+-- ---- each event keeps the invariant
 
 pub idle-of : (g : Stage) → not-idle g ≡ false → g ≡ idle
 idle-of idle e = refl
@@ -189,21 +210,22 @@ module _ (o : Opening) (st : State) (inv : Inv o st) where
       grows : Own-grows st s (losing (st .station s))
       grows = record { claims = λ c. (c, refl); helds = λ t e. e; casts = λ b x e. e }
 
-  answer-grows : (b a : ℕ) → Answer-accepted o st b a → Grows st (effect o st (answer b a))
+  answer-grows : (b a : ℕ) → Answer-first o st b a → Grows st (effect o st (answer b a))
   unfolding effect
   answer-grows b a x = record {
     claims = λ s e. (e, refl);
     helds = λ s t e. e;
     answers = λ c y e.
         update-ind (λ (z : Option Bool). z ≡ some y) (st .answer-of) b (some (as-bit a)) c
-        (λ q. absurd (Option·none-ne-some y (sym (unanswered-none _ (x .unanswered)) ∙ ap (st .answer-of) (sym q) ∙ e)))
+        (λ q. absurd (Option·none-ne-some y (sym (x .unanswered) ∙ ap (st .answer-of) (sym q) ∙ e)))
         (λ ne. e);
     casts = λ s c y e. e;
   }
 
-  answer-keeps : (b a : ℕ) → Answer-accepted o st b a → Kept o st (effect o st (answer b a))
+  answer-keeps : (b a : ℕ) → Stands o st b a ⊎ Answer-first o st b a → Kept o st (effect o st (answer b a))
   unfolding effect
-  answer-keeps b a x = record {
+  answer-keeps b a (inl e) = subst (Kept o st) (sym (answer-again o st b a e)) (record { inv = inv; grows = grows-refl st })
+  answer-keeps b a (inr x) = record {
     inv = record {
       parts = λ s. part-grows o st _ (answer-grows b a x) s _ _ _ (inv .parts s);
       answers = λ c y.
@@ -220,7 +242,7 @@ module _ (o : Opening) (st : State) (inv : Inv o st) where
   event-keeps (deliver t s) n = deliver-keeps t s (deliver-accepted o st t s n)
   event-keeps (step s) n = step-event-keeps s (step-accepted o st s n)
   event-keeps (lose s) n = lose-keeps s
-  event-keeps (answer b a) n = answer-keeps b a (answer-accepted o st b a n)
+  event-keeps (answer b a) n = answer-keeps b a (answer-accepted o st b a n .how)
 
   -- any event, accepted or refused
   pub next-kept : (e : Event) → Kept o st (next o st e)

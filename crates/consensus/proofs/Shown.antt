@@ -1,17 +1,18 @@
 -- The figure's state shows the play's: an event that is owned by one station changes that station's part and that process alike, and leaves
--- every claim that somebody holds as it was; an ANSWER is a decision. So an event is accepted exactly where its label is allowed.
+-- every claim that somebody holds as it was; an ANSWER is a decision. So an event is accepted exactly where its label is allowed,
+-- but for an ANSWER of the bit that stands, which is accepted and not allowed.
 -- Assumes nothing.
-use Prim.Native.Nat.{ℕ, suc, _<_}
-use mathlib.Core.Path.{_≡_, refl, sym, subst, ap, _∙_, fun-ext}
+use Prim.Native.Nat.{ℕ, suc, _≤_, _<_}
+use mathlib.Core.Path.{_≡_, refl, sym, subst, ap, ap₂, _∙_, fun-ext}
 use mathlib.Core.Logic.{_⊎_, inl, inr}
 use mathlib.Core.Bool.{Bool, true, false, cond, not, _&&_, _||_}
 use mathlib.Core.Option.{Option, none, some}
 use native.Mathlib.Omega.{arith}
 use lib.Dec.{eqb, ltb}
-use borrow.Author.Tests.{lt-ltb}
+use borrow.Author.Tests.{lt-ltb, ltb-true, ltb-false}
 use Rattle.consensus.specs.Events.{Event, claim, deliver, step, lose, answer, Rule, rule-1, rule-2, Opening, Openable, ballots}
-use Rattle.consensus.specs.State.{Stage, idle, waiting, Station, State, not-idle, claimed, claim-of, held, answered, update, set-station}
-use Rattle.consensus.specs.Rules.{is-bit, stage-number, number, claiming, holding, losing, step-from, effect, was-cast, as-bit}
+use Rattle.consensus.specs.State.{Stage, idle, waiting, Station, State, not-idle, claimed, claim-of, held, update, set-station}
+use Rattle.consensus.specs.Rules.{is-bit, answer-number, stage-number, number, claiming, holding, losing, step-from, effect, was-cast, as-bit}
 use Rattle.basics.specs.Below.{any-below}
 use Rattle.basics.specs.Tests.{refuse}
 use Rattle.consensus.specs.Figure.{View, Does, broadcasts, known, event}
@@ -22,6 +23,7 @@ use Rattle.consensus.proofs.Basics.{update-ind, pair-ind, is-bit-some}
 use Rattle.basics.proofs.Bools.{no-clash}
 use Rattle.basics.proofs.Below.{any-found}
 use Rattle.consensus.proofs.Invariant.{Stage-ok, Inv}
+use Rattle.consensus.proofs.Reached.{Stands, again-accepted}
 use Rattle.consensus.proofs.Accepted.{step-active}
 use Rattle.consensus.proofs.Alike.{Alike, both-blocked, both-go, both-broadcast, both-propose, Verdict, both, neither, play-view, does-at, Side, side, Quiet, claim-side}
 use Rattle.consensus.proofs.Alike1.{alike-1}
@@ -48,6 +50,19 @@ module _ (o : Opening) where
   -- the event e is accepted and allowed, and the states after it show each other; or it is neither
   abbrev pub Judged : State → Figure-state o → Event → Type 0
   Judged st x e = Verdict (number o st e) (happening (o .count) (event (figure-of o)) x e) (λ y. Shows o (effect o st e) y)
+
+  -- it answers the bit that stands: it is accepted, not allowed, and leaves the state as it was
+  pub record Again (st : State) (x : Figure-state o) (e : Event) : Type 0 where
+    pub accepted : number o st e ≡ 0
+    pub not-allowed : happening (o .count) (event (figure-of o)) x e ≡ none
+    pub ballot : ℕ
+    pub bit : ℕ
+    pub answers : e ≡ answer ballot bit
+    pub small : bit ≤ 1
+    pub stands : Stands o st ballot bit
+
+  abbrev pub Judged-or-again : State → Figure-state o → Event → Type 0
+  Judged-or-again st x e = Judged st x e ⊎ Again st x e
 
   module _ (st : State) (x : Figure-state o) (shows : Shows o st x) where
     part-shows : (s : ℕ) → Part-shows st (st .station s) (x .process s)
@@ -334,53 +349,78 @@ module _ (o : Opening) where
       decision = λ i. same-update (x .decision) (st .answer-of) b (some a) (shows .decision) i;
     }
 
-    same-known : (y : Option Bool) → known y ≡ answered y
-    same-known none = refl
-    same-known (some a) = refl
+    -- the ballot is one (g), the bit is above 1 (u), the ballot has this answer (y), the bit was cast (c): a verdict, or the bit stands
+    abbrev Answer-told : (g u c : Bool) → Option Bool → ℕ → Bool → Type 0
+    Answer-told g u c y b a =
+        Verdict (refuse (not g) 9 (refuse u 10 (answer-number y a c))) (provided (not u) (provided (not (known y) && c) (some (deciding b a)))) (Shows o (answering b a))
+        ⊎ ((g ≡ true) × (u ≡ false) × (y ≡ some a))
 
-    -- the ballot is one (g), the bit is above 1 (u), the ballot is answered (k), the bit was cast (c)
-    answer-cases : (g u k c : Bool) (b : ℕ) (a : Bool) → (c ≡ true → g ≡ true)
-        → Verdict (refuse (not g) 9 (refuse u 10 (refuse k 11 (refuse (not c) 12 0))))
-        (provided (not u) (provided (not k && c) (some (deciding b a))))
-        (Shows o (answering b a))
-    answer-cases true true k c b a f = neither (λ z. omega arith) refl
-    answer-cases true false true c b a f = neither (λ z. omega arith) refl
-    answer-cases true false false true b a f = both refl _ refl (answer-shows b a)
-    answer-cases true false false false b a f = neither (λ z. omega arith) refl
-    answer-cases false true k c b a f = neither (λ z. omega arith) refl
-    answer-cases false false true c b a f = neither (λ z. omega arith) refl
-    answer-cases false false false true b a f = no-clash false (f refl) refl
-    answer-cases false false false false b a f = neither (λ z. omega arith) refl
+    answer-stands : (x c : Bool) (b : ℕ) (a : Bool) → Answer-told true false c (some x) b a
+    answer-stands true c b true = inr (refl, refl, refl)
+    answer-stands true c b false = inl (neither (λ z. omega arith) refl)
+    answer-stands false c b true = inl (neither (λ z. omega arith) refl)
+    answer-stands false c b false = inr (refl, refl, refl)
+
+    answer-cases : (g u c : Bool) (y : Option Bool) (b : ℕ) (a : Bool) → (c ≡ true → g ≡ true) → Answer-told g u c y b a
+    answer-cases true true c y b a f = inl (neither (λ z. omega arith) refl)
+    answer-cases true false c (some x) b a f = answer-stands x c b a
+    answer-cases true false true none b a f = inl (both refl _ refl (answer-shows b a))
+    answer-cases true false false none b a f = inl (neither (λ z. omega arith) refl)
+    answer-cases false true c y b a f = inl (neither (λ z. omega arith) refl)
+    answer-cases false false c (some x) b a f = inl (neither (λ z. omega arith) refl)
+    answer-cases false false true none b a f = no-clash false (f refl) refl
+    answer-cases false false false none b a f = inl (neither (λ z. omega arith) refl)
 
     then-provided : (u : Bool) (l : Label) (f : Label → Option (Figure-state o)) → then (provided u (some l)) f ≡ provided u (f l)
     then-provided true l f = refl
     then-provided false l f = refl
 
-    answer-verdict : Inv o st → In-bounds o st → (b a : ℕ) → Judged st x (answer b a)
-    unfolding number effect happens
-    answer-verdict inv within b a =
-        subst (λ (y : Option (Figure-state o)). Verdict (number o st (answer b a)) y (λ z. Shows o (effect o st (answer b a)) z))
-        (sym (then-provided (not (ltb 1 a)) (decide b (eqb a 1)) (happens (o .count) (event (figure-of o)) x)))
-        (subst (λ (k : Bool). Told k (λ i. is-bit (as-bit a) (x .process i .proposed b))) (sym (ap known (shows .decision b) ∙ same-known (st .answer-of b)))
-        (subst (λ (f : ℕ → Bool). Told (answered (st .answer-of b)) f) (fun-ext (λ i. ap (is-bit (as-bit a)) (sym (shows .proposed i b))))
-        (answer-cases (ltb b (ballots o)) (ltb 1 a) (answered (st .answer-of b)) (was-cast o st b (as-bit a)) b (as-bit a) there)))
-      where
-        Told : Bool → (ℕ → Bool) → Type 0
-        Told k f =
-            Verdict
-            (refuse (not (ltb b (ballots o))) 9
-            (refuse (ltb 1 a) 10 (refuse (answered (st .answer-of b)) 11 (refuse (not (was-cast o st b (as-bit a))) 12 0))))
-            (provided (not (ltb 1 a)) (provided (not k && any-below (o .count) f) (some (deciding b (as-bit a)))))
-            (Shows o (answering b (as-bit a)))
+    -- what the figure does, in the play's words
+    answer-happens : (b a : ℕ)
+        → happening (o .count) (event (figure-of o)) x (answer b a)
+        ≡ provided (not (ltb 1 a)) (provided (not (known (st .answer-of b)) && was-cast o st b (as-bit a)) (some (deciding b (as-bit a))))
+    unfolding happens
+    answer-happens b a =
+        then-provided (not (ltb 1 a)) (decide b (eqb a 1)) (happens (o .count) (event (figure-of o)) x)
+        ∙ ap₂ (λ (y : Option Bool) (f : ℕ → Bool). provided (not (ltb 1 a)) (provided (not (known y) && any-below (o .count) f) (some (deciding b (as-bit a)))))
+        (shows .decision b) (fun-ext (λ i. ap (is-bit (as-bit a)) (shows .proposed i b)))
 
+    provided-none : (u : Bool) → provided {A = Figure-state o} u none ≡ none
+    provided-none true = refl
+    provided-none false = refl
+
+    -- an ANSWER of the bit that stands
+    pub again : (b a : ℕ) → b < ballots o → a ≤ 1 → Stands o st b a → Again st x (answer b a)
+    again b a l m e = record {
+      accepted = again-accepted o st b a l m e;
+      not-allowed =
+          answer-happens b a
+          ∙ ap (λ (y : Option Bool). provided (not (ltb 1 a)) (provided (not (known y) && was-cast o st b (as-bit a)) (some (deciding b (as-bit a))))) e
+          ∙ provided-none (not (ltb 1 a));
+      ballot = b;
+      bit = a;
+      answers = refl;
+      small = m;
+      stands = e;
+    }
+
+    answer-verdict : In-bounds o st → (b a : ℕ) → Judged-or-again st x (answer b a)
+    unfolding number effect
+    answer-verdict within b a =
+        go (answer-cases (ltb b (ballots o)) (ltb 1 a) (was-cast o st b (as-bit a)) (st .answer-of b) b (as-bit a) there)
+      where
         there : was-cast o st b (as-bit a) ≡ true → ltb b (ballots o) ≡ true
         there c =
             let f = any-found (o .count) _ c in
             lt-ltb b (ballots o) (within .ballot (f .0) b (as-bit a) (is-bit-some (as-bit a) _ (f .2)))
 
-    pub verdict : Inv o st → In-bounds o st → Openable o → (e : Event) → Judged st x e
-    verdict inv within ok (claim s v) = claim-verdict inv ok s v
-    verdict inv within ok (deliver t s) = deliver-verdict inv t s
-    verdict inv within ok (step s) = step-verdict inv within ok s
-    verdict inv within ok (lose s) = lose-verdict inv s
-    verdict inv within ok (answer b a) = answer-verdict inv within b a
+        go : Answer-told (ltb b (ballots o)) (ltb 1 a) (was-cast o st b (as-bit a)) (st .answer-of b) b (as-bit a) → Judged-or-again st x (answer b a)
+        go (inl v) = inl (subst (λ (y : Option (Figure-state o)). Verdict (number o st (answer b a)) y (λ z. Shows o (effect o st (answer b a)) z)) (sym (answer-happens b a)) v)
+        go (inr (g, u, y)) = inr (again b a (ltb-true b (ballots o) g) (ltb-false 1 a u) y)
+
+    pub verdict : Inv o st → In-bounds o st → Openable o → (e : Event) → Judged-or-again st x e
+    verdict inv within ok (claim s v) = inl (claim-verdict inv ok s v)
+    verdict inv within ok (deliver t s) = inl (deliver-verdict inv t s)
+    verdict inv within ok (step s) = inl (step-verdict inv within ok s)
+    verdict inv within ok (lose s) = inl (lose-verdict inv s)
+    verdict inv within ok (answer b a) = answer-verdict within b a

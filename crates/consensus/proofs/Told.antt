@@ -24,7 +24,7 @@ use Rattle.basics.proofs.Refusals.{refused-not}
 use Rattle.consensus.proofs.Invariant.{Part-ok, votes, votes-by}
 use Rattle.consensus.proofs.Spelling.{below-suc}
 use Rattle.consensus.proofs.Steps.{one-station, opening, idle-refused, decided-refused}
-use Rattle.consensus.proofs.Reached.{answer-accepted, step-accepted, unanswered-none, next-kept, reached}
+use Rattle.consensus.proofs.Reached.{Stands, Answer-first, answer-accepted, step-accepted, next-kept, reached}
 use Rattle.consensus.proofs.Station.{Taken, taken, taken-station, taken-answers, untaken}
 
 -- ---- the first accepted ANSWER is the answer that the play keeps
@@ -50,10 +50,13 @@ given-accepted o st (lose s) b n = or-else-none (st .answer-of b)
 given-accepted o st (answer c a) b n =
     update-ind (λ (x : Option Bool). or-else (st .answer-of b) (cond (eqb c b) (some (as-bit a)) none) ≡ x) (st .answer-of) c (some (as-bit a)) b
     (λ q.
-    ap₂ (λ (x : Option Bool) (t : Bool). or-else x (cond t (some (as-bit a)) none))
-    (ap (st .answer-of) q ∙ unanswered-none _ (answer-accepted o st c a n .unanswered))
-    (eq-eqb c b (sym q)))
+    ap (λ (t : Bool). or-else (st .answer-of b) (cond t (some (as-bit a)) none)) (eq-eqb c b (sym q))
+    ∙ ap (λ (x : Option Bool). or-else x (some (as-bit a))) (ap (st .answer-of) q) ∙ first (answer-accepted o st c a n .how))
     (λ ne. ap (λ (t : Bool). or-else (st .answer-of b) (cond t (some (as-bit a)) none)) (ne-eqb c b (λ q. ne (sym q))) ∙ or-else-none (st .answer-of b))
+  where
+    first : Stands o st c a ⊎ Answer-first o st c a → or-else (st .answer-of c) (some (as-bit a)) ≡ some (as-bit a)
+    first (inl e) = ap (λ (x : Option Bool). or-else x (some (as-bit a))) e
+    first (inr x) = ap (λ (y : Option Bool). or-else y (some (as-bit a))) (x .unanswered)
 
 given-next : (o : Opening) (st : State) (e : Event) (b : ℕ) → or-else (st .answer-of b) (given b (eqb (number o st e) 0) e) ≡ next o st e .answer-of b
 unfolding next

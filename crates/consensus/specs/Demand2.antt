@@ -1,13 +1,14 @@
--- Demand 2 about the play: each accepted event does one step of figure 1 or figure 2, and each step that the figure allows is accepted.
--- Assumes nothing.
-use Prim.Native.Nat.{ℕ}
+-- Demand 2 about the play: each accepted event does one step of figure 1 or figure 2, or is a repeat; and each step that the figure allows is
+-- accepted. Assumes nothing.
+use Prim.Native.Nat.{ℕ, _≤_, _<_}
 use mathlib.Core.Path.{_≡_}
+use mathlib.Core.Logic.{_⊎_}
 use mathlib.Core.Bool.{true, cond}
 use mathlib.Core.Option.{Option, none, some}
-use Rattle.consensus.specs.Events.{Event, History, _▷_, Rule, rule-1, rule-2, Opening, Openable}
+use Rattle.consensus.specs.Events.{Event, answer, History, _▷_, Rule, rule-1, rule-2, Opening, Openable, ballots}
 use Rattle.consensus.specs.State.{Stage, idle, waiting, voting, awaiting, seeking, finish-voting, finish-awaiting, decided, State, claimed, claim-of, held}
-use Rattle.consensus.specs.Rules.{number, after}
-use Rattle.consensus.specs.Terms.{Claims-fit}
+use Rattle.consensus.specs.Rules.{as-bit, number, next, after}
+use Rattle.consensus.specs.Terms.{Claims-fit, Repeat}
 use Rattle.consensus.specs.Figure.{Figure, event}
 use Rattle.consensus.specs.Figure1 as one
 use Rattle.consensus.specs.Figure2 as two
@@ -69,10 +70,19 @@ module _ (o : Opening) where
   abbrev pub figure-after : History → Figure-state
   figure-after h = run (o .count) (event (figure-of o)) (figure-of o .first) h
 
+  -- "A repeat counts as a played event but is no step of the figures" (document 02, A.1): both states stay as they were
+  pub record No-step (h : History) (e : Event) : Type 0 where
+    pub accepted : number o (after o h) e ≡ 0
+    pub not-allowed : (y : Figure-state) → Step (figure-after h) e y → ⊥
+    pub stays : after o (h ▷ e) ≡ after o h
+    pub figure-stays : figure-after (h ▷ e) ≡ figure-after h
+
   pub record Demand2-of (h : History) : Type 0 where
     pub shown : Shows (after o h) (figure-after h)
-    -- "each accepted event does one step of Zhang and Chen's figure 1 or figure 2"
-    pub accepted : (e : Event) → number o (after o h) e ≡ 0 → (y : Figure-state) × Step (figure-after h) e y × Shows (after o (h ▷ e)) y
+    -- "each accepted event does one step of Zhang and Chen's figure 1 or figure 2", or it is a repeat
+    pub accepted : (e : Event) → number o (after o h) e ≡ 0
+        → ((y : Figure-state) × Step (figure-after h) e y × Shows (after o (h ▷ e)) y) ⊎ Repeat o e h
+    pub repeated : (e : Event) → Repeat o e h → No-step h e
     -- "and each step those figures allow in that state is accepted"
     pub allowed : (e : Event) (y : Figure-state) → Step (figure-after h) e y → (number o (after o h) e ≡ 0) × Shows (after o (h ▷ e)) y
     -- line 11 of figure 2 reads prop[j], and never finds ⊥ there: who stands at it holds the claim of j
@@ -81,6 +91,9 @@ module _ (o : Opening) where
 -- Demand 2 about the play: every accepted opening, both rules, every list of events whose claims are claims.
 pub record Demand2 : Type 0 where
   pub holds : (o : Opening) → Openable o → (h : History) → Claims-fit h → Demand2-of o h
+  -- "the answer a ballot already has is accepted again and changes nothing" (document 02, A.1), in any state, made-up ones included
+  pub again : (o : Opening) (st : State) (b a : ℕ) → b < ballots o → a ≤ 1 → st .answer-of b ≡ some (as-bit a)
+      → (number o st (answer b a) ≡ 0) × (next o st (answer b a) ≡ st)
   -- the events leave out nothing that may happen, and a labelled step has one outcome (a step is computed, so this is plain)
   pub every-label : (l : Label) → (e : Event) × (label-of e ≡ some l)
   pub one-outcome : (o : Opening) (x y z : Figure-state o) (e : Event) → Step o x e y → Step o x e z → y ≡ z

@@ -1,12 +1,12 @@
--- The words of demand 3 at their edges, in literal numbers: which openings there are, R, the ballots and K of some, the bound, how many ballots a decider
--- may have voted in, and that two stations with another claim, other ballots or other answers are not the same. A word made a little
--- wider or narrower still bears demand 3; here it is noticed. Assumes nothing.
+-- The words of demands 2 and 3 at their edges, in literal numbers: which openings there are, R, the ballots and K of some, the bound, how many ballots
+-- a decider may have voted in, that two stations with another claim, other ballots or other answers are not the same, and what is a repeat. A word made
+-- a little wider or narrower still bears the demand; here it is noticed. Assumes nothing.
 use Prim.Native.Nat.{ℕ}
 use mathlib.Core.Path.{_≡_}
 use mathlib.Core.Bool.{Bool, true, false}
 use mathlib.Core.List.{List, [], _∷_, map}
-use Rattle.consensus.specs.Events.{claim, deliver, step, lose, answer, History, start, _▷_, Rule, rule-1, rule-2, Openable, rounds, ballots}
-use Rattle.consensus.specs.Terms.{voted-in, answers-taken, Decided, longest}
+use Rattle.consensus.specs.Events.{claim, deliver, step, lose, answer, History, start, _▷_, Rule, rule-1, rule-2, Opening, Openable, rounds, ballots}
+use Rattle.consensus.specs.Terms.{Repeat, voted-in, answers-taken, Decided, longest}
 use Rattle.consensus.specs.Demand3.{Ballots-voted, most-steps, Same}
 use Rattle.consensus.specs.Examples.{opening, lone-of-three, lone-two-bits}
 use Rattle.consensus.specs.Rows.{case-D}
@@ -66,10 +66,10 @@ pub record Costs-met : Type 0 where
   pub not-more : (k : ℕ) → Ballots-voted rule-1 2 k (0 ∷ 1 ∷ 2 ∷ []) → ⊥
 
 -- station 0 has voted, and station 1 has not; both have, and station 0 took the answer
-abbrev one-voted : History
+abbrev pub one-voted : History
 one-voted = start ▷ claim 0 7 ▷ claim 1 7 ▷ deliver 0 0 ▷ deliver 1 1 ▷ step 0 ▷ step 0
 
-abbrev one-took : History
+abbrev pub one-took : History
 one-took = one-voted ▷ step 1 ▷ step 1 ▷ answer 0 1 ▷ step 0
 
 -- "the same ballots voted in and the same answers"
@@ -78,3 +78,16 @@ pub record Sameness : Type 0 where
   pub other-claim : Same (opening 2 rule-1) start 0 1 7 9 → ⊥
   pub other-ballots : Same (opening 2 rule-1) one-voted 0 1 7 7 → ⊥
   pub other-answers : Same (opening 2 rule-1) one-took 0 1 7 7 → ⊥
+
+-- what a repeat is, and what it is not: before the first ANSWER, after a refused one, of the other bit, of another ballot, of a bit above 1; no other event is one
+pub record Repeats : Type 0 where
+  pub same-bit : Repeat (opening 2 rule-1) (answer 0 1) one-took
+  pub once-more : Repeat (opening 2 rule-1) (answer 0 1) (one-took ▷ answer 0 1 ▷ lose 0 ▷ lose 1)
+  pub by-claim : Repeat (opening 2 rule-2) (answer 1 0) case-D
+  pub first : Repeat (opening 2 rule-1) (answer 0 1) one-voted → ⊥
+  pub refused : Repeat (opening 2 rule-1) (answer 0 1) (start ▷ answer 0 1) → ⊥
+  pub other-bit : Repeat (opening 2 rule-1) (answer 0 0) one-took → ⊥
+  pub other-ballot : Repeat (opening 2 rule-2) (answer 4 1) case-D → ⊥
+  pub above-1 : (o : Opening) (h : History) (b : ℕ) → Repeat o (answer b 2) h → ⊥
+  pub lost-again : Repeat (opening 2 rule-1) (lose 0) (start ▷ lose 0) → ⊥
+  pub held-again : Repeat (opening 2 rule-1) (deliver 0 0) one-took → ⊥

@@ -32,6 +32,20 @@ number-right (made-up n r st e m) = eqb (number (opening n r) st e) m
 abbrev pub four : History
 four = start ▷ claim 0 6 ▷ deliver 0 0 ▷ step 0 ▷ step 0 ▷ claim 1 9 ▷ deliver 1 1 ▷ lose 1 ▷ lose 2
 
+-- case S of document 01
+abbrev pub case-S : History
+case-S =
+    start ▷ claim 0 7 ▷ claim 1 9 ▷ deliver 0 0 ▷ deliver 1 1 ▷ deliver 1 0 ▷ step 0 ▷ step 0 ▷ step 1 ▷ step 1 ▷ answer 0 1
+    ▷ step 0 ▷ step 0 ▷ step 1 ▷ step 1 ▷ step 1
+
+-- case D of document 01
+abbrev pub case-D : History
+case-D =
+    start ▷ claim 0 1 ▷ claim 1 3 ▷ deliver 0 0 ▷ deliver 1 0 ▷ deliver 0 1 ▷ deliver 1 1 ▷ step 0 ▷ step 0 ▷ step 1 ▷ step 1 ▷ answer 0 1
+    ▷ step 0 ▷ step 0 ▷ step 0 ▷ step 1 ▷ step 1 ▷ step 1 ▷ answer 1 0
+    ▷ step 0 ▷ step 0 ▷ step 1 ▷ step 1 ▷ answer 2 1
+    ▷ step 0 ▷ step 0 ▷ step 0 ▷ step 0 ▷ step 1 ▷ step 1 ▷ step 1 ▷ answer 3 1 ▷ step 0 ▷ step 1
+
 -- as document 01 lists the tests of each event; both rules have the same numbers here
 abbrev pub numbers-by : Rule → List Row
 numbers-by r =
@@ -48,10 +62,14 @@ numbers-by r =
     ∷ numbered 4 r (four ▷ claim 3 5 ▷ deliver 3 3) (step 3) 0 ∷ numbered 4 r (four ▷ claim 3 5 ▷ lose 3) (step 3) 2 ∷ numbered 4 r (four ▷ lose 0) (step 0) 2
     -- LOSE: 1, 2
     ∷ numbered 4 r four (lose 0) 0 ∷ numbered 4 r four (lose 3) 0 ∷ numbered 4 r four (lose 4) 1 ∷ numbered 4 r four (lose 1) 2
-    -- ANSWER: 10, 11, 12; above 1 and answered, above 1 and not cast: 10; answered and not cast: 11; the voter lost later: 0
+    -- ANSWER: 10, 11, 12; above 1 and answered, above 1 and not cast: 10; the other bit answered, and not cast: 11; the voter lost later: 0
     ∷ numbered 4 r four (answer 0 0) 0 ∷ numbered 4 r four (answer 0 1) 12 ∷ numbered 4 r four (answer 1 0) 12 ∷ numbered 4 r four (answer 0 2) 10
-    ∷ numbered 4 r (four ▷ answer 0 0) (answer 0 2) 10 ∷ numbered 4 r (four ▷ answer 0 0) (answer 0 1) 11 ∷ numbered 4 r (four ▷ answer 0 0) (answer 0 0) 11
-    ∷ numbered 4 r (four ▷ lose 0) (answer 0 0) 0 ∷ []
+    ∷ numbered 4 r (four ▷ answer 0 0) (answer 0 2) 10 ∷ numbered 4 r (four ▷ answer 0 0) (answer 0 1) 11 ∷ numbered 4 r (four ▷ lose 0) (answer 0 0) 0
+    -- a repeat: 0, a second time, after a refused ANSWER of the other bit, and after its only voter was lost too; another ballot's answer is no repeat
+    ∷ numbered 4 r (four ▷ answer 0 0) (answer 0 0) 0 ∷ numbered 4 r (four ▷ answer 0 0 ▷ answer 0 0) (answer 0 0) 0
+    ∷ numbered 4 r (four ▷ answer 0 0 ▷ answer 0 0) (answer 0 1) 11 ∷ numbered 4 r (four ▷ answer 0 0 ▷ answer 0 1) (answer 0 0) 0
+    ∷ numbered 4 r (four ▷ answer 0 0 ▷ lose 0) (answer 0 0) 0 ∷ numbered 4 r (four ▷ lose 0 ▷ answer 0 0) (answer 0 0) 0
+    ∷ numbered 4 r (four ▷ answer 0 0 ▷ lose 0) (answer 0 1) 11 ∷ numbered 4 r (four ▷ answer 0 0) (answer 1 0) 12 ∷ []
 
 -- 7, and a decided station that is lost: 2; 8 of an unanswered finish ballot; ballots, in number R or 64: 9, before 10
 abbrev pub numbers-apart : List Row
@@ -62,7 +80,10 @@ numbers-apart =
     ∷ numbered 32 rule-1 start (answer 4 0) 12 ∷ numbered 32 rule-1 start (answer 5 0) 9 ∷ numbered 32 rule-1 start (answer 5 2) 9
     ∷ numbered 17 rule-1 start (answer 4 0) 12 ∷ numbered 17 rule-1 start (answer 5 0) 9 ∷ numbered 16 rule-1 start (answer 4 0) 9
     ∷ numbered 32 rule-2 start (answer 63 0) 12 ∷ numbered 32 rule-2 start (answer 64 0) 9 ∷ numbered 32 rule-2 start (answer 64 2) 9
-    ∷ numbered 32 rule-1 start (claim 31 0) 0 ∷ numbered 32 rule-1 start (claim 32 0) 1 ∷ numbered 1 rule-1 start (answer 0 0) 9 ∷ []
+    ∷ numbered 32 rule-1 start (claim 31 0) 0 ∷ numbered 32 rule-1 start (claim 32 0) 1 ∷ numbered 1 rule-1 start (answer 0 0) 9
+    -- both bits were cast, and one answered
+    ∷ numbered 2 rule-1 case-S (answer 0 1) 0 ∷ numbered 2 rule-1 case-S (answer 0 0) 11
+    ∷ numbered 2 rule-2 case-D (answer 1 0) 0 ∷ numbered 2 rule-2 case-D (answer 1 1) 11 ∷ []
 
 -- made-up states: every station, those from n on too, has the one part, and every ballot the one answer
 abbrev all-alike : Stage → (holds lost : Bool) → Option Bool → State
@@ -71,13 +92,18 @@ all-alike g x y a = record {
   answer-of = λ b. a;
 }
 
--- 1 before 2, 3, 4, 5, 6 and 7; 4 before 5; 9 before 11; 42, of the last ballot and the answer 0 alone
+-- 1 before 2, 3, 4, 5, 6 and 7; 4 before 5; 9 and 10 before 11 and a repeat; an answer that nobody cast: again 0, the other bit 11, and 12 where
+-- none stands; 42, of the last ballot and the answer 0 alone
 abbrev pub numbers-made-up : List Row
 numbers-made-up =
     made-up 2 rule-1 (all-alike (decided 7 0) true true none) (claim 2 5) 1 ∷ made-up 2 rule-1 (all-alike (decided 7 0) true true none) (deliver 2 0) 1
     ∷ made-up 2 rule-1 (all-alike (decided 7 0) true true none) (step 2) 1 ∷ made-up 2 rule-1 (all-alike idle true true none) (step 2) 1
     ∷ made-up 2 rule-1 (all-alike idle true true none) (lose 2) 1 ∷ made-up 2 rule-1 (all-alike idle true false none) (deliver 0 0) 4
-    ∷ made-up 2 rule-1 (all-alike idle true true (some true)) (answer 1 1) 9 ∷ made-up 2 rule-1 (all-alike idle true true (some true)) (answer 0 1) 11
+    ∷ made-up 2 rule-1 (all-alike idle true true (some true)) (answer 1 1) 9 ∷ made-up 2 rule-1 (all-alike idle true true (some true)) (answer 1 0) 9
+    ∷ made-up 2 rule-1 (all-alike idle true true (some true)) (answer 0 2) 10 ∷ made-up 2 rule-1 (all-alike idle true true (some false)) (answer 0 2) 10
+    ∷ made-up 2 rule-1 (all-alike idle true true (some true)) (answer 0 1) 0 ∷ made-up 2 rule-1 (all-alike idle true true (some true)) (answer 0 0) 11
+    ∷ made-up 2 rule-2 (all-alike idle true true (some false)) (answer 63 0) 0 ∷ made-up 2 rule-2 (all-alike idle true true (some false)) (answer 63 1) 11
+    ∷ made-up 2 rule-2 (all-alike idle true true (some false)) (answer 64 0) 9 ∷ made-up 2 rule-2 (all-alike idle true true none) (answer 63 0) 12
     ∷ made-up 2 rule-2 (all-alike (finish-awaiting 0 31 0) true false (some false)) (step 0) 42
     ∷ made-up 2 rule-2 (all-alike (finish-awaiting 0 31 0) true false (some true)) (step 0) 0
     ∷ made-up 2 rule-2 (all-alike (finish-awaiting 0 30 0) true false (some false)) (step 0) 0
@@ -96,20 +122,6 @@ pub record Play-numbers : Type 0 where
 unfoldable pub walk : Opening → ℕ → History → List Stage
 walk o p start = []
 walk o p (h ▷ e) = walk o p h ++ listed (is-step p e) (some (after o (h ▷ e) .station p .stage))
-
--- case S of document 01
-abbrev pub case-S : History
-case-S =
-    start ▷ claim 0 7 ▷ claim 1 9 ▷ deliver 0 0 ▷ deliver 1 1 ▷ deliver 1 0 ▷ step 0 ▷ step 0 ▷ step 1 ▷ step 1 ▷ answer 0 1
-    ▷ step 0 ▷ step 0 ▷ step 1 ▷ step 1 ▷ step 1
-
--- case D of document 01
-abbrev pub case-D : History
-case-D =
-    start ▷ claim 0 1 ▷ claim 1 3 ▷ deliver 0 0 ▷ deliver 1 0 ▷ deliver 0 1 ▷ deliver 1 1 ▷ step 0 ▷ step 0 ▷ step 1 ▷ step 1 ▷ answer 0 1
-    ▷ step 0 ▷ step 0 ▷ step 0 ▷ step 1 ▷ step 1 ▷ step 1 ▷ answer 1 0
-    ▷ step 0 ▷ step 0 ▷ step 1 ▷ step 1 ▷ answer 2 1
-    ▷ step 0 ▷ step 0 ▷ step 0 ▷ step 0 ▷ step 1 ▷ step 1 ▷ step 1 ▷ answer 3 1 ▷ step 0 ▷ step 1
 
 abbrev alone : History
 alone = start ▷ claim 0 5 ▷ deliver 0 0 ▷ step 0

@@ -56,6 +56,12 @@ last-refusal o none b = 0
 last-refusal o (some true) b = 0
 last-refusal o (some false) b = refuse (eqb (suc b) (ballots o)) 42 0
 
+-- What an ANSWER of the bit a is refused for, beside the answer that its ballot has, and whether a was cast there (document 02, A.1): "the answer
+-- a ballot already has is accepted again", "number 11 is for the other bit only", "12 is met only where no answer stands"
+abbrev pub answer-number : Option Bool → (a was-cast : Bool) → ℕ
+answer-number none a c = refuse (not c) 12 0
+answer-number (some x) a c = refuse (not (Bool·beq x a)) 11 0
+
 -- what STEP is refused for at each stage
 unfoldable pub stage-number : Opening → State → ℕ → Stage → ℕ
 stage-number o st s idle = 6
@@ -76,7 +82,7 @@ number o st (step s) = refuse (no-station o s) 1 (refuse (st .station s .lost) 2
 number o st (lose s) = refuse (no-station o s) 1 (refuse (st .station s .lost) 2 0)
 number o st (answer b a) =
     refuse (not (ltb b (ballots o))) 9
-    (refuse (ltb 1 a) 10 (refuse (answered (st .answer-of b)) 11 (refuse (not (was-cast o st b (as-bit a))) 12 0)))
+    (refuse (ltb 1 a) 10 (answer-number (st .answer-of b) (as-bit a) (was-cast o st b (as-bit a))))
 
 -- ---- what one STEP does
 

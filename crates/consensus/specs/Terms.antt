@@ -1,4 +1,4 @@
--- The words of demand 3 (document 01, "Lists of events"), read off a list of events with the play alongside:
+-- The words of demands 2 and 3 (document 01, "Lists of events"), read off a list of events with the play alongside:
 -- each is a recursion over the list, and asks the play only which events were accepted and where a station stood. Assumes nothing.
 use Prim.Native.Nat.{ℕ, suc, _+_, _^_, _<_, max}
 use mathlib.Core.Path.{_≡_}
@@ -117,6 +117,14 @@ module _ (o : Opening) where
 
   abbrev pub Answered : ℕ → History → Type 0
   Answered b h = (a : ℕ) × Happened (answer b a) h
+
+  -- e, tried after h, is a repeat (document 02, A.1, "announcements that come twice"): an ANSWER that was accepted before, with the same bit
+  abbrev pub Repeat : Event → History → Type 0
+  Repeat (claim s v) h = ⊥
+  Repeat (deliver t s) h = ⊥
+  Repeat (step s) h = ⊥
+  Repeat (lose s) h = ⊥
+  Repeat (answer b a) h = Happened (answer b a) h
 
   -- the bit that b was answered with: the first accepted ANSWER gives it
   unfoldable pub first-answer : History → ℕ → Option Bool

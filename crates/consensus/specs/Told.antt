@@ -1,4 +1,4 @@
--- The words of demand 3 are what the play's state shows, both ways: so none of them can be empty or too wide without notice. Assumes nothing.
+-- The words of demands 2 and 3 are what the play's state shows, both ways: so none of them can be empty or too wide without notice. Assumes nothing.
 use Prim.Native.Nat.{ℕ, _≤_, _<_}
 use mathlib.Core.Path.{_≡_}
 use mathlib.Core.Logic.{_↔_, _⊎_}
@@ -6,10 +6,10 @@ use mathlib.Core.Bool.{Bool, true}
 use mathlib.Core.Option.{Option, none, some}
 use mathlib.Core.List.{List, [], _∷_}
 use Rattle.bits.specs.Digits.{bit-length}
-use Rattle.consensus.specs.Events.{claim, History, start, _▷_, Opening}
+use Rattle.consensus.specs.Events.{claim, answer, History, start, _▷_, Opening}
 use Rattle.consensus.specs.State.{Stage, idle, waiting, voting, awaiting, seeking, finish-voting, finish-awaiting, decided, State, claimed, claim-of, held, answered}
-use Rattle.consensus.specs.Rules.{bit-ballot, finish-ballot, after}
-use Rattle.consensus.specs.Terms.{Beginning, Claims-fit, decision, Put-in, Holds, Lost, Answered, first-answer, voted-in, waits-on, answers-taken, Decided, longest, Supplied}
+use Rattle.consensus.specs.Rules.{bit-ballot, finish-ballot, as-bit, after}
+use Rattle.consensus.specs.Terms.{Beginning, Claims-fit, decision, Put-in, Holds, Lost, Answered, Repeat, first-answer, voted-in, waits-on, answers-taken, Decided, longest, Supplied}
 
 -- the ballot that a station at this stage waits on
 abbrev pub awaited : Opening → Stage → Option ℕ
@@ -46,6 +46,8 @@ module _ (o : Opening) (h : History) where
     pub lost : (s : ℕ) → Lost o s h ↔ (after o h .station s .lost ≡ true)
     pub is-answered : (b : ℕ) → Answered o b h ↔ (answered (after o h .answer-of b) ≡ true)
     pub first : (b : ℕ) → first-answer o h b ≡ after o h .answer-of b
+    -- a repeat is an ANSWER of the bit that stands
+    pub repeats : (b a : ℕ) → Repeat o (answer b a) h ↔ ((a ≤ 1) × (after o h .answer-of b ≡ some (as-bit a)))
     pub waits : (p : ℕ) → waits-on o p h ≡ awaited o (after o h .station p .stage)
     -- p voted in the ballots where its bit stands (`answered`: some bit stands there), and took the answer of each but the one it waits on
     pub voted : (p b : ℕ) → Listed b (voted-in o p h) ↔ (answered (after o h .station p .cast b) ≡ true)

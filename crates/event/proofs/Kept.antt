@@ -2,7 +2,7 @@
 -- touched only by events that leave the part as it was. Assumes nothing.
 use Prim.Native.Nat.{ℕ}
 use mathlib.Core.Path.{_≡_, refl, sym, ap, _∙_}
-use mathlib.Core.Bool.{Bool, true, false, cond, not, _||_, true≢false}
+use mathlib.Core.Bool.{Bool, true, false, cond, not, _&&_, _||_, Bool·beq, true≢false}
 use lib.Dec.{eqb, ltb}
 use borrow.Author.Tests.{eqb-true, eqb-false, ltb-true, ltb-false}
 use Rattle.basics.specs.Tests.{first-met}
@@ -23,7 +23,7 @@ use Rattle.entry.specs.Entries.{no-station, ballots, by-station, was-cast, move
 use Rattle.event.specs.Places.{next-cursor}
 use Rattle.event.specs.Step.{at-once, last-round, seeking-ends, bit-voted, finish-voted, started, bit-taken, finish-taken, entry-after-seek, sought, stepped, voted}
 use Rattle.event.specs.Change.{number-on, own-after, ballot-after}
-use Rattle.event.specs.Frame.{Kept, Never-taken-back}
+use Rattle.event.specs.Frame.{Kept, Never-taken-back, Repeat-stays}
 
 -- ---- a claim held stays held
 
@@ -97,11 +97,23 @@ answer-cast : (t : Ballot) (x a : Bool) → was-cast t a ≡ true → was-cast (
 answer-cast t x true p = p
 answer-cast t x false p = p
 
+-- an accepted ANSWER of an answered ballot has the bit that stands
+same-bit : (x y : Bool) → not (Bool·beq x y) ≡ false → y ≡ x
+same-bit true true e = refl
+same-bit true false e = no-clash true refl e
+same-bit false true e = no-clash true refl e
+same-bit false false e = refl
+
+answer-same : (v : View) (b a : ℕ) → number-on v (answer b a) ≡ 0 → v .ballot .answered ≡ true → as-bit a ≡ v .ballot .answer
+unfolding first-met
+answer-same v b a e p =
+    let later = refused-not (ltb 1 a) _ _ refl (refused-not (not (ltb b (ballots (v .count) (v .rule)))) _ _ refl e .1) .1 in
+    let same = refused-not (v .ballot .answered && not (Bool·beq (v .ballot .answer) (as-bit a))) _ _ refl later .0 in
+    same-bit (v .ballot .answer) (as-bit a) (rw p at same)
+
 answer-kept : (v : View) (b a : ℕ) → number-on v (answer b a) ≡ 0 → Kept v (answer b a)
 unfolding first-met own-after ballot-after
 answer-kept v b a e =
-    let first = refused-not (not (ltb b (ballots (v .count) (v .rule)))) _ _ refl e .1 in
-    let open-yet = refused-not (v .ballot .answered) _ _ refl (refused-not (ltb 1 a) _ _ refl first .1) .0 in
     record {
       lost = λ p. refl;
       put-in = λ p. p;
@@ -112,7 +124,7 @@ answer-kept v b a e =
       round = λ p. refl;
       cast = answer-cast (v .ballot) (as-bit a);
       answered = λ p. refl;
-      answer-stays = λ p. no-clash (v .ballot .answered) p open-yet;
+      answer-stays = λ p. answer-same v b a e p;
     }
 
 -- ---- STEP: of the own entry, a claim and what is held stay, and it is past idle afterwards
@@ -187,3 +199,7 @@ never-taken-back v (deliver t s) e = deliver-kept v t s e
 never-taken-back v (step s) e = step-kept v s e
 never-taken-back v (lose s) e = lose-kept v s e
 never-taken-back v (answer b a) e = answer-kept v b a e
+
+pub repeat-stays : Repeat-stays
+unfolding own-after ballot-after
+repeat-stays v b a p e = (refl, rw (answer-same v b a e p, p))

@@ -3,7 +3,7 @@
 use Prim.Native.Nat.{ℕ, _≤_}
 use mathlib.Core.Path.{_≡_, refl, sym, ap, _∙_}
 use mathlib.Core.Logic.{_↔_, _⊎_, inl, inr, ⊎-elim}
-use mathlib.Core.Bool.{Bool, true, false, not, _&&_, _||_, true≢false}
+use mathlib.Core.Bool.{Bool, true, false, not, _&&_, _||_, Bool·beq, true≢false}
 use native.Mathlib.Omega.{arith}
 use lib.Dec.{eqb, ltb}
 use borrow.Author.Tests.{eqb-true, eqb-false, eq-eqb, ltb-true, ltb-false, lt-ltb, le-ltb, not-true}
@@ -79,21 +79,35 @@ idle g = twice (at Idle g) (told-apart Idle g)
     twice true t = t
     twice false t = t
 
-nobody : (v : View) (a : ℕ) → ltb 1 a ≡ false → Tells (not (was-cast (v .ballot) (as-bit a))) (Nobody-cast v a)
-nobody v a small = go (eqb a 1) refl
+-- a bit, told by its number
+told-bit : {P Q : Type 0} (a : ℕ) → ltb 1 a ≡ false → (t : Bool → Bool) → Tells (t true) P → Tells (t false) Q
+    → Tells (t (as-bit a)) (((a ≡ 1) × P) ⊎ ((a ≡ 0) × Q))
+told-bit {P} {Q} a small t one zero = go (eqb a 1) refl
   where
     no-bit : (eqb a 1 ≡ false) → a ≡ 0
     no-bit q = let l = ltb-false 1 a small in let n = eqb-false a 1 q in bit-0 a l n
 
-    go : (b : Bool) → eqb a 1 ≡ b → Tells (not (was-cast (v .ballot) b)) (Nobody-cast v a)
+    go : (b : Bool) → eqb a 1 ≡ b → Tells (t b) (((a ≡ 1) × P) ⊎ ((a ≡ 0) × Q))
     go true q = (
-      λ e. inl (eqb-true a 1 q, not-true (v .ballot .cast1) e),
-      λ p. ⊎-elim (λ r. ap not (r .1)) (λ r. absurd (true≢false (sym q ∙ ap (λ (x : ℕ). eqb x 1) (r .0)))) p,
+      λ e. inl (eqb-true a 1 q, one .0 e),
+      λ p. ⊎-elim (λ r. one .1 (r .1)) (λ r. absurd (true≢false (sym q ∙ ap (λ (x : ℕ). eqb x 1) (r .0)))) p,
     )
     go false q = (
-      λ e. inr (no-bit q, not-true (v .ballot .cast0) e),
-      λ p. ⊎-elim (λ r. absurd (eqb-false a 1 q (r .0))) (λ r. ap not (r .1)) p,
+      λ e. inr (no-bit q, zero .0 e),
+      λ p. ⊎-elim (λ r. absurd (eqb-false a 1 q (r .0))) (λ r. zero .1 (r .1)) p,
     )
+
+nobody : (v : View) (a : ℕ) → ltb 1 a ≡ false → Tells (not (was-cast (v .ballot) (as-bit a))) (Nobody-cast v a)
+nobody v a small = told-bit a small (λ x. not (was-cast (v .ballot) x)) (is-not (v .ballot .cast1)) (is-not (v .ballot .cast0))
+
+-- the bit that stands is not a
+not-beq : (x : Bool) → Tells (not (Bool·beq x true)) (x ≡ false) × Tells (not (Bool·beq x false)) (x ≡ true)
+not-beq true = ((λ e. sym e, λ e. sym e), (λ e. refl, λ e. refl))
+not-beq false = ((λ e. refl, λ e. refl), (λ e. e, λ e. e))
+
+other : (v : View) (a : ℕ) → ltb 1 a ≡ false
+    → Tells (not (Bool·beq (v .ballot .answer) (as-bit a))) (((a ≡ 1) × (v .ballot .answer ≡ false)) ⊎ ((a ≡ 0) × (v .ballot .answer ≡ true)))
+other v a small = told-bit a small (λ x. not (Bool·beq (v .ballot .answer) x)) (not-beq (v .ballot .answer) .0) (not-beq (v .ballot .answer) .1)
 
 -- ---- the five events
 
@@ -115,4 +129,5 @@ numbers v (lose s) = met _ _ _ _ (past (v .count) s) refl (λ p1 e1. met _ _ 0 _
 numbers v (answer b a) =
     met _ _ _ _ (past (ballots (v .count) (v .rule)) b) refl
     (λ p1 e1. met _ _ _ _ (ltb-true 1 a, lt-ltb 1 a) e1
-    (λ p2 e2. met _ _ _ _ (is (v .ballot .answered)) e2 (λ p3 e3. met _ _ 0 _ (nobody v a p2) e3 (λ p4 e4. e4))))
+    (λ p2 e2. met _ _ _ _ (tells-and _ _ (is (v .ballot .answered)) (other v a p2)) e2
+    (λ p3 e3. met _ _ 0 _ (tells-and _ _ (is-not (v .ballot .answered)) (nobody v a p2)) e3 (λ p4 e4. e4))))

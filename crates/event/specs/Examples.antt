@@ -126,7 +126,7 @@ numbers =
     ∷ gives (alone 2 1 blank-station) (lose 2) 1
     ∷ gives (alone 2 1 (gone Idle)) (lose 2) 1
     ∷ gives (alone 2 1 (gone Decided)) (lose 1) 2
-    -- ANSWER: 9, 10, 11, 12
+    -- ANSWER: 9, 10, 11, 12; the bit that stands: 0, though nobody cast it; a bit beside no answer does not stand
     ∷ gives (alone 32 1 blank-station) (answer 5 0) 9
     ∷ gives (alone 32 2 blank-station) (answer 64 0) 9
     ∷ gives (alone 1 1 blank-station) (answer 0 0) 9
@@ -136,8 +136,20 @@ numbers =
     ∷ gives (seen 32 1 blank-station five (marks true true false false)) (answer 4 2) 10
     ∷ gives (seen 32 1 blank-station five yes) (answer 4 2) 10
     ∷ gives (alone 32 1 blank-station) (answer 4 2) 10
-    ∷ gives (seen 32 1 blank-station five yes) (answer 4 1) 11
+    ∷ gives (seen 32 1 blank-station five no) (answer 4 2) 10
+    ∷ gives (seen 32 1 blank-station five yes) (answer 5 1) 9
     ∷ gives (seen 32 1 blank-station five yes) (answer 4 0) 11
+    ∷ gives (seen 32 1 blank-station five no) (answer 4 1) 11
+    ∷ gives (seen 32 2 blank-station five (marks true true true true)) (answer 63 0) 11
+    ∷ gives (seen 32 2 blank-station five (marks true true true false)) (answer 63 1) 11
+    ∷ gives (seen 32 1 blank-station five yes) (answer 4 1) 0
+    ∷ gives (seen 32 1 blank-station five no) (answer 4 0) 0
+    ∷ gives (seen 32 2 blank-station five (marks false false true true)) (answer 63 1) 0
+    ∷ gives (seen 32 2 blank-station five (marks false false true true)) (answer 63 0) 11
+    ∷ gives (seen 1 2 blank-station five (marks false true true false)) (answer 0 0) 0
+    ∷ gives (seen 1 2 blank-station five (marks false true true false)) (answer 0 1) 11
+    ∷ gives (seen 2 1 blank-station five (marks true false false true)) (answer 0 1) 12
+    ∷ gives (seen 2 1 blank-station five (marks false true false false)) (answer 0 0) 12
     ∷ gives (alone 32 1 blank-station) (answer 4 0) 12
     ∷ gives (seen 32 2 blank-station five (marks true false false false)) (answer 63 1) 12
     ∷ gives (seen 1 2 blank-station five (marks false true false false)) (answer 0 0) 12
@@ -162,6 +174,11 @@ entries =
     ∷ leaves (seen 32 2 (gone Decided) five (marks false true false false)) (answer 63 1) (lost Decided 6 7 1 3 5 9) (marks false true true true)
     ∷ leaves (seen 1 2 (made Idle) five (marks true true false false)) (answer 1 1) (live Idle 6 7 1 3 5 9) (marks true true true true)
     ∷ leaves (seen 2 1 (made Idle) five (marks true true false true)) (answer 0 0) (live Idle 6 7 1 3 5 9) (marks true true true false)
+    -- ANSWER of the bit that stands: nothing, whoever cast it
+    ∷ leaves (seen 32 1 (made Awaiting) five yes) (answer 4 1) (live Awaiting 6 7 1 3 5 9) yes
+    ∷ leaves (seen 32 2 (gone Decided) five (marks true true true false)) (answer 63 0) (lost Decided 6 7 1 3 5 9) (marks true true true false)
+    ∷ leaves (seen 2 1 (made Idle) five (marks false false true true)) (answer 0 1) (live Idle 6 7 1 3 5 9) (marks false false true true)
+    ∷ leaves (seen 1 2 (made Seeking) five (marks false true true false)) (answer 1 0) (live Seeking 6 7 1 3 5 9) (marks false true true false)
     -- STEP, waiting: the cursor on itself; by station a lone one decides its own claim
     ∷ leaves (seen 4 1 (made Waiting) five no) (step 2) (live Voting 6 7 2 3 5 9) no
     ∷ leaves (seen 32 2 (live Waiting 2147483648 7 1 3 5 9) five yes) (step 31) (live Voting 2147483648 7 31 3 5 9) yes

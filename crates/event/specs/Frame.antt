@@ -112,3 +112,8 @@ pub record Kept (v : View) (e : Event) : Type 0 where
 
 abbrev pub Never-taken-back : Type 0
 Never-taken-back = (v : View) (e : Event) → number-on v e ≡ 0 → Kept v e
+
+-- "accepted again and changes nothing" (document 02, A.1): where an answer stands, an accepted ANSWER leaves both entries as they were
+abbrev pub Repeat-stays : Type 0
+Repeat-stays = (v : View) (b a : ℕ) → v .ballot .answered ≡ true → number-on v (answer b a) ≡ 0
+    → (own-after v (answer b a) ≡ v .own) × (ballot-after v (answer b a) ≡ v .ballot)

@@ -29,6 +29,10 @@ Takes-last-no v = ((v .own .stage ≡ FinishAwaiting) × (v .ballot .answer ≡ 
 abbrev pub Nobody-cast : View → ℕ → Type 0
 Nobody-cast v a = ((a ≡ 1) × (v .ballot .cast1 ≡ false)) ⊎ ((a ≡ 0) × (v .ballot .cast0 ≡ false))
 
+-- "the other bit only": the ballot has an answer, and not this one (document 02, A.1)
+abbrev pub Other-stands : View → ℕ → Type 0
+Other-stands v a = (v .ballot .answered ≡ true) × (((a ≡ 1) × (v .ballot .answer ≡ false)) ⊎ ((a ≡ 0) × (v .ballot .answer ≡ true)))
+
 unfoldable pub Number-is : View → Event → ℕ → Type 0
 Number-is v (claim s c) x =
     Met (v .count ≤ s) 1 x (Met (v .own .lost ≡ true) 2 x (Met (v .own .stage ≡ Idle → ⊥) 3 x (x ≡ 0)))
@@ -43,7 +47,7 @@ Number-is v (step s) x =
 Number-is v (lose s) x = Met (v .count ≤ s) 1 x (Met (v .own .lost ≡ true) 2 x (x ≡ 0))
 Number-is v (answer b a) x =
     Met (ballots (v .count) (v .rule) ≤ b) 9 x
-    (Met (1 < a) 10 x (Met (v .ballot .answered ≡ true) 11 x (Met (Nobody-cast v a) 12 x (x ≡ 0))))
+    (Met (1 < a) 10 x (Met (Other-stands v a) 11 x (Met ((v .ballot .answered ≡ false) × Nobody-cast v a) 12 x (x ≡ 0))))
 
 abbrev pub Entry-numbers : Type 0
 Entry-numbers = (v : View) (e : Event) → Number-is v e (number-on v e)

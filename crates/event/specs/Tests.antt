@@ -1,7 +1,7 @@
 -- What each event is turned away for (document 01, "Operations and what they turn away"): its tests in the order written, each with its number, on
 -- what it looks at. Assumes nothing.
 use Prim.Native.Nat.{ℕ, pred}
-use mathlib.Core.Bool.{Bool, not, _&&_, _||_}
+use mathlib.Core.Bool.{Bool, not, _&&_, _||_, Bool·beq}
 use mathlib.Core.List.{List, [], _∷_}
 use lib.Dec.{eqb, ltb}
 use Rattle.basics.specs.Tests.{Test, when}
@@ -58,12 +58,13 @@ lose-tests v s =
     ∷ when (v .own .lost) 2
     ∷ []
 
+-- document 02, A.1: "the answer a ballot already has is accepted again", "number 11 is for the other bit only", "12 is met only where no answer stands"
 abbrev pub answer-tests : View → ℕ → ℕ → List Test
 answer-tests v b a =
     when (not (ltb b (ballots (v .count) (v .rule)))) 9
     ∷ when (ltb 1 a) 10
-    ∷ when (v .ballot .answered) 11
-    ∷ when (not (was-cast (v .ballot) (as-bit a))) 12
+    ∷ when (v .ballot .answered && not (Bool·beq (v .ballot .answer) (as-bit a))) 11
+    ∷ when (not (v .ballot .answered) && not (was-cast (v .ballot) (as-bit a))) 12
     ∷ []
 
 abbrev pub tests-on : View → Event → List Test

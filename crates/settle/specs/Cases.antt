@@ -133,10 +133,11 @@ starred =
     ∷ event-gives (stations 32 rule-1) start (answer 4 0) 12
     ∷ event-gives (stations 32 rule-2) start (answer 63 0) 12
     ∷ event-gives (stations 32 rule-2) start (answer 64 0) 9
-    -- G
+    -- G, its last part as document 02, A.1, has it; then the other bit
     ∷ event-gives (stations 1 rule-2) only-zero (answer 0 1) 12
     ∷ event-gives (stations 1 rule-2) only-zero (answer 0 2) 10
-    ∷ event-gives (stations 1 rule-2) (only-zero ▷ answer 0 0) (answer 0 0) 11
+    ∷ event-gives (stations 1 rule-2) (only-zero ▷ answer 0 0) (answer 0 0) 0
+    ∷ event-gives (stations 1 rule-2) (only-zero ▷ answer 0 0) (answer 0 1) 11
     -- bytes as they are written below
     ∷ bytes-are (hex "00010a 10ff") (0 ∷ 1 ∷ 10 ∷ 16 ∷ 255 ∷ [])
     -- H
@@ -208,8 +209,14 @@ starred =
     ∷ run-gives (hex "0100020201 1000050000000007 12000100") 65536 1 13 8
     ∷ run-gives (hex "0100022001 1400020500") 65536 0 5 9
     ∷ run-gives (hex "0100020201 1400020002") 65536 0 5 10
-    ∷ run-gives (hex "0100020202 1000050000000004 1100020000 12000100 12000100 1400020000 1400020000") 65536 5 31 11
+    ∷ run-gives (hex "0100020202 1000050000000004 1100020000 12000100 12000100 1400020000 1400020001") 65536 5 31 11
     ∷ run-gives (hex "0100020201 1400020000") 65536 0 5 12
+    -- a repeat "counts as a played event" (document 02, A.1), twice and within a limit, though its only voter is lost
+    ∷ run-gives (hex "0100020202 1000050000000004 1100020000 12000100 12000100 1400020000 1400020000 13000100 1400020000") 65536 8 45 0
+    ∷ run-gives (hex "0100020202 1000050000000004 1100020000 12000100 12000100 1400020000 1400020000") 6 6 36 0
+    ∷ run-gives (hex "0100020202 1000050000000004 1100020000 12000100 12000100 1400020000 1400020000") 5 5 31 26
+    ∷ prints (hex "0100020202 1000050000000004 1100020000 12000100 12000100 1400020000 1400020000")
+    "stations 2 rule 2 ballots 64 events 6 taken 36 status 0\n0 awaiting - votes 1 live\n1 idle - votes 0 live\n"
     ∷ []
 
 abbrev pub Starred-right : Type 0

@@ -30,6 +30,7 @@ use Rattle.settlement.specs.Laws.{Station-outside, cursor, voting, await
 use Rattle.settlement.specs.Laws.{Outside, many-stations, no-rule, some-station, Takes-last-no, starting, nothing-shown, Laws}
 use Rattle.settlement.proofs.Demand1.{demand1}
 use Rattle.settlement.proofs.Stays.{event-stays}
+use Rattle.settlement.proofs.Again.{stands-again, other-refused}
 use Rattle.settlement.proofs.Places.{played-faulty}
 use Rattle.settlement.proofs.Range.{few-stations, some-rule, cursor-below, round-by-station, no-finish-by-station, round-by-claim}
 
@@ -183,6 +184,16 @@ module _ (r : Settlement) where
   first-42 (answer b a) (inl m) = inl (fault-outside r (m .0))
   first-42 (answer b a) (inr m) = absurd (not-met 42 (tests-on (view r (answer b a)) (answer b a)) (refl, (refl, (refl, (refl, tt)))) (m .1))
 
+  -- ---- 12 from an ANSWER
+
+  first-12 : (b a : ℕ) → Met-first 12 (tests r (answer b a)) → ballot r b .answered ≡ false
+  first-12 b a (inl (_, k)) = absurd (omega arith)
+  first-12 b a (inr (_, inl (_, k))) = absurd (omega arith)
+  first-12 b a (inr (_, inr (_, inl (_, k)))) = absurd (omega arith)
+  first-12 b a (inr (_, inr (_, inr (_, inl (_, k))))) = absurd (omega arith)
+  first-12 b a (inr (_, inr (_, inr (_, inr (_, inl (open-yet, _)))))) = not-true _ (and-true (not (ballot r b .answered)) _ open-yet .0)
+  first-12 b a (inr (_, inr (_, inr (_, inr (_, inr none))))) = absurd (none .1)
+
 -- ---- LOOK
 
 module _ (r : Settlement) (s : ℕ) where
@@ -234,4 +245,7 @@ laws =
       open-41 = refused-41;
       open-0 = accepted;
       stays = event-stays;
+      again = λ r o b x. stands-again r (passing r o) b x;
+      other-11 = λ r o b x. other-refused r (passing r o) b x;
+      only-12 = λ r b a h. first-12 r b a (demand1 .refused r (answer b a) 12 (λ z. omega arith) .0 h);
     }

@@ -11,6 +11,7 @@ use lib.Seq.{getD-set-other, set-getD}
 use borrow.Author.Tests.{eqb-true}
 use Rattle.basics.specs.Tests.{first-met}
 use Rattle.basics.proofs.Bools.{by-bool, cond-ind}
+use Rattle.basics.proofs.Lists.{set-again}
 use Rattle.basics.proofs.Refusals.{refused-not}
 use Rattle.consensus.specs.Events.{Event, claim, deliver, step, lose, answer}
 use Rattle.entry.specs.declared.entry.Stage.{Stage}
@@ -22,7 +23,7 @@ use Rattle.event.specs.Places.{own-of}
 use Rattle.event.specs.Step.{voted}
 use Rattle.event.specs.Change.{own-after, ballot-after}
 use Rattle.settlement.specs.declared.record.Settlement.{Settlement}
-use Rattle.settlement.specs.Record.{entry, ballot, ballot-in, view}
+use Rattle.settlement.specs.Record.{entry, ballot, with-station, with-ballot, ballot-in, view}
 use Rattle.settlement.specs.Fault.{fault}
 use Rattle.settlement.specs.Events.{number, outcome, effect, played}
 use Rattle.settlement.specs.Laws.{May-change, May-change-ballot, Votes-in, bit-by-station, bit-by-claim, whether-to-finish, Stays}
@@ -31,6 +32,15 @@ use Rattle.settlement.proofs.Range.{some-rule, other}
 -- an entry stored again where it stood
 same : {A : Type 0} (l : List A) (i : ℕ) (x y : A) → x ≡ getD l i y → (j : ℕ) (d : A) → getD (set l i x) j d ≡ getD l j d
 same l i x y e j d = ap (λ (l : List _). getD l j d) (ap (set l i) e ∙ set-getD l i y)
+
+-- an entry stored again leaves the record as it was
+pub ballot-again : (b : ℕ) (r : Settlement) → with-ballot b (ballot r b) r ≡ r
+ballot-again b r =
+    ap (λ (q : List Ballot). record { count = r .count; rule = r .rule; stations = r .stations; ballots = q }) (set-again (r .ballots) b blank-ballot)
+
+pub station-again : (s : ℕ) (r : Settlement) → with-station s (entry r s) r ≡ r
+station-again s r =
+    ap (λ (q : List Station). record { count = r .count; rule = r .rule; stations = q; ballots = r .ballots }) (set-again (r .stations) s blank-station)
 
 module _ (r : Settlement) where
   -- ---- the station entries

@@ -15,7 +15,8 @@ Met-first k [] = ⊥
 Met-first k (when met number ∷ ts) = ((met ≡ true) × (number ≡ k)) ⊎ ((met ≡ false) × Met-first k ts)
 
 -- `tests r e` lists the document's tests in its order: "an event on a record outside its ranges (42), for no such station or ballot or a bit above 1
--- (1, 9, 10), by or to a lost station (2), too early (4, 6, 8), a second time (3, 5, 11), a step once decided (7), or an answer nobody cast (12)"
+-- (1, 9, 10), by or to a lost station (2), too early (4, 6, 8), a second time (3, 5; of ANSWER the other bit alone, 11), a step once decided (7), or an
+-- answer nobody cast (12)". A second ANSWER of the same bit is among the events accepted (document 02, A.1)
 pub record Demand1 : Type 0 where
   -- "Refused, each with its number ..."
   pub refused : (r : Settlement) (e : Event) (k : ℕ) → (k ≡ 0 → ⊥) → played r e .number ≡ k ↔ Met-first k (tests r e)

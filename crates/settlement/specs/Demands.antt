@@ -2,13 +2,13 @@
 -- of events from every accepted OPEN. Assumes nothing.
 use Prim.Native.Nat.{ℕ, _≤_, _<_}
 use mathlib.Core.Path.{_≡_}
-use mathlib.Core.Logic.{_↔_}
+use mathlib.Core.Logic.{_⊎_, _↔_}
 use mathlib.Core.Bool.{true, false}
 use lib.ListN.{length}
-use Rattle.consensus.specs.Events.{Event, claim, deliver, step, lose, answer, History, Opening, Openable}
+use Rattle.consensus.specs.Events.{Event, claim, deliver, step, lose, answer, History, _▷_, Opening, Openable}
 use Rattle.consensus.specs.State.{State}
 use Rattle.consensus.specs.Rules.{number, after}
-use Rattle.consensus.specs.Terms.{Beginning, Fitting, Claims-fit, Put-in, Lost, Decided, Supplied, voted-in}
+use Rattle.consensus.specs.Terms.{Beginning, Fitting, Claims-fit, Put-in, Lost, Repeat, Decided, Supplied, voted-in}
 use Rattle.consensus.specs.Demand2.{Figure-state, Shows, Step, figure-after}
 use Rattle.consensus.specs.Demand3.{Demand3-of}
 use Rattle.settlement.specs.declared.record.Settlement.{Settlement}
@@ -38,12 +38,19 @@ module _ (o : Opening) (h : History) where
     pub no-fault : fault (record-after o h) ≡ false
     pub no-42 : (e : Event) → played (record-after o h) e .number ≡ 42 → ⊥
 
+  -- "A repeat counts as a played event but is no step of the figures" (document 02, A.1): it leaves the record and the figure's state as they were
+  pub record No-step-of-records (e : Event) : Type 0 where
+    pub accepted : played (record-after o h) e ≡ record { number = 0; settlement = record-after o h }
+    pub not-allowed : (y : Figure-state o) → Step o (figure-after o h) e y → ⊥
+    pub figure-stays : figure-after o (h ▷ e) ≡ figure-after o h
+
   -- Demand 2: "each accepted event does one step of Zhang and Chen's figure 1 or figure 2, and each step those figures allow in that state is
-  -- accepted"
+  -- accepted"; but for a repeat, which is accepted and no step
   pub record Demand2-of-records : Type 0 where
     pub shown : Shows-figure o (record-after o h) (figure-after o h)
     pub accepted : (e : Event) → Fitting e → played (record-after o h) e .number ≡ 0
-        → (y : Figure-state o) × Step o (figure-after o h) e y × Shows-figure o (played (record-after o h) e .settlement) y
+        → ((y : Figure-state o) × Step o (figure-after o h) e y × Shows-figure o (played (record-after o h) e .settlement) y) ⊎ Repeat o e h
+    pub repeated : (e : Event) → Repeat o e h → No-step-of-records e
     pub allowed : (e : Event) → Fitting e → (y : Figure-state o) → Step o (figure-after o h) e y
         → (played (record-after o h) e .number ≡ 0) × Shows-figure o (played (record-after o h) e .settlement) y
 

@@ -217,6 +217,19 @@ entries-after =
     ∷ leaves (at-ballot 32 1 0 (live Awaiting 5 6 4 3 9 11) 4 (marks true false false true)) (answer 4 0) 0 (live Awaiting 5 6 4 3 9 11)
     ∷ leaves-ballot (at-ballot 32 2 0 (live Awaiting 5 6 4 3 9 11) 63 (marks true true false false)) (answer 63 1) 63 (marks true true true true)
     ∷ leaves-ballot (at-ballot 1 2 0 (lost Awaiting 5 6 0 3 9 11) 0 (marks false true false false)) (answer 0 1) 0 (marks false true true true)
+    -- the bit that stands again: 0 and nothing changes, though nobody cast it; the other bit: 11, though somebody did
+    ∷ gives (at-ballot 32 1 0 (live Awaiting 5 6 4 3 9 11) 4 (marks true false true false)) (answer 4 0) 0
+    ∷ leaves-ballot (at-ballot 32 1 0 (live Awaiting 5 6 4 3 9 11) 4 (marks true false true false)) (answer 4 0) 4 (marks true false true false)
+    ∷ leaves (at-ballot 32 1 0 (live Awaiting 5 6 4 3 9 11) 4 (marks true false true false)) (answer 4 0) 0 (live Awaiting 5 6 4 3 9 11)
+    ∷ gives (at-ballot 32 2 0 (lost Idle 5 6 4 3 9 11) 63 (marks false false true true)) (answer 63 1) 0
+    ∷ leaves-ballot (at-ballot 32 2 0 (lost Idle 5 6 4 3 9 11) 63 (marks false false true true)) (answer 63 1) 63 (marks false false true true)
+    ∷ gives (at-ballot 32 2 0 (live Idle 5 6 4 3 9 11) 63 (marks false false true false)) (answer 63 0) 0
+    ∷ leaves-ballot (at-ballot 32 2 0 (live Idle 5 6 4 3 9 11) 63 (marks false false true false)) (answer 63 0) 63 (marks false false true false)
+    ∷ gives (at-ballot 32 1 0 (live Idle 5 6 4 3 9 11) 4 (marks true true true false)) (answer 4 1) 11
+    ∷ gives (at-ballot 32 2 0 (live Idle 5 6 4 3 9 11) 63 (marks false false true true)) (answer 63 0) 11
+    ∷ leaves-ballot (at-ballot 32 2 0 (live Idle 5 6 4 3 9 11) 63 (marks false false true true)) (answer 63 0) 63 (marks false false true true)
+    ∷ gives (at-ballot 3 1 2 (live Decided 5 6 3 1 9 11) 0 (marks true true true true)) (answer 0 1) 42
+    ∷ gives (at-ballot 3 2 2 (live Decided 5 6 3 1 9 11) 0 (marks true true true true)) (answer 0 0) 42
     -- the other entries: a station beside, one from n on, and the sender; ballot 0, and a ballot that is not voted in
     ∷ leaves (made-up 3 2 1 (live Waiting 5 6 2 3 9 11)) (lose 0) 1 (live Waiting 5 6 2 3 9 11)
     ∷ leaves (made-up 2 1 31 (live Idle 5 6 4 3 9 11)) (claim 0 7) 31 (live Idle 5 6 4 3 9 11)

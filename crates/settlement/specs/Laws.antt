@@ -3,13 +3,14 @@
 use Prim.Native.Nat.{ℕ, _≤_, _<_, _+_, _*_}
 use mathlib.Core.Path.{_≡_}
 use mathlib.Core.Logic.{_⊎_, _↔_}
-use mathlib.Core.Bool.{true, false}
+use mathlib.Core.Bool.{Bool, true, false, cond}
 use lib.ListN.{length, getD, replicate}
 use Rattle.bits.specs.Log.{ceil-log2}
 use Rattle.consensus.specs.Events.{Event, claim, deliver, step, lose, answer}
 use Rattle.entry.specs.declared.entry.Stage.the-variants.{Idle, Waiting, Voting, Awaiting, Seeking, FinishVoting, FinishAwaiting}
 use Rattle.entry.specs.declared.entry.Station.{Station}
 use Rattle.entry.specs.declared.entry.Ballot.{Ballot}
+use Rattle.entry.specs.Entries.{ballots}
 use Rattle.settlement.specs.declared.record.Settlement.{Settlement}
 use Rattle.settlement.specs.declared.record.Standing.{Standing}
 use Rattle.settlement.specs.Record.{entry, ballot}
@@ -80,6 +81,12 @@ pub record Stays (r : Settlement) (e : Event) (r′ : Settlement) : Type 0 where
   pub stations : (i : ℕ) → (May-change e i → ⊥) → (d : Station) → getD (r′ .stations) i d ≡ getD (r .stations) i d
   pub ballots : (i : ℕ) → (May-change-ballot r e i → ⊥) → (d : Ballot) → getD (r′ .ballots) i d ≡ getD (r .ballots) i d
 
+-- ---- announcements that come twice
+
+-- the ballot b has the answer x
+abbrev pub Has-answer : Settlement → ℕ → Bool → Type 0
+Has-answer r b x = (ballot r b .answered ≡ true) × (ballot r b .answer ≡ x)
+
 -- ---- how a settlement starts, and how LOOK turns away
 
 -- "each of the 32 entries starts idle, live, holding nothing, with claim, cursor and decision 0, and each ballot entry without a cast bit or an answer";
@@ -116,3 +123,10 @@ pub record Laws : Type 0 where
   pub open-0 : (n rule : ℕ) → 1 ≤ n → n ≤ 32 → (rule ≡ 1) ⊎ (rule ≡ 2) → opened n rule ≡ record { number = 0; settlement = starting n rule }
   -- an event changes no entry but its own station's and its ballot's
   pub stays : (r : Settlement) (e : Event) → Stays r e (played r e .settlement)
+  -- "the answer a ballot already has is accepted again and changes nothing. Number 11 is for the other bit only. .. 12 is met only where no answer
+  -- stands" (document 02, A.1): whoever cast what
+  pub again : (r : Settlement) → (Outside r → ⊥) → (b : ℕ) (x : Bool) → b < ballots (r .count) (r .rule) → Has-answer r b x
+      → played r (answer b (cond x 1 0)) ≡ record { number = 0; settlement = r }
+  pub other-11 : (r : Settlement) → (Outside r → ⊥) → (b : ℕ) (x : Bool) → b < ballots (r .count) (r .rule) → Has-answer r b x
+      → played r (answer b (cond x 0 1)) ≡ record { number = 11; settlement = r }
+  pub only-12 : (r : Settlement) (b a : ℕ) → played r (answer b a) .number ≡ 12 → ballot r b .answered ≡ false

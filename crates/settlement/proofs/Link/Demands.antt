@@ -2,7 +2,7 @@
 -- what the list tells of the station. Assumes nothing.
 use Prim.Native.Nat.{ℕ, zero, suc, _+_, _*_, _<_, _≤_, zero-le}
 use mathlib.Core.Path.{_≡_, refl, sym, subst, _∙_, ap, ap₂}
-use mathlib.Core.Logic.{inl, inr}
+use mathlib.Core.Logic.{inl, inr, ⊎-elim}
 use mathlib.Core.Bool.{Bool, true, false, cond, not, _||_}
 use mathlib.Core.Option.{none, some, Option·none-ne-some, Option·some-injective}
 use native.Mathlib.Omega.{arith}
@@ -18,7 +18,7 @@ use Rattle.consensus.specs.State as play
 use Rattle.consensus.specs.Rules as rules
 use Rattle.basics.specs.Tests.{refuse, first-met}
 use Rattle.basics.specs.Below.{any-below}
-use Rattle.consensus.specs.Terms.{decision, voted-in, Decided, Fitting, Claims-fit}
+use Rattle.consensus.specs.Terms.{decision, voted-in, Repeat, Decided, Fitting, Claims-fit}
 use Rattle.basics.proofs.Bools.{by-bool, no-clash, not-false→true, or-false}
 use Rattle.basics.proofs.Refusals.{refused-not, met}
 use Rattle.consensus.proofs.Invariant as invariant
@@ -48,8 +48,9 @@ use Rattle.settlement.specs.Demands.{Answers-told, In-ranges, Demand2-of
 use Rattle.settlement.proofs.Link.Linked.{Entry-shows, Linked, linked-shows}
 use Rattle.settlement.proofs.Link.Faultless.{rule-known, faultless}
 use Rattle.basics.proofs.Below.{none-below}
-use Rattle.settlement.proofs.Link.Numbers.{bit-ballot-same, number-same}
+use Rattle.settlement.proofs.Link.Numbers.{bit-ballot-same, ballot-answered, number-same}
 use Rattle.settlement.proofs.Link.Effects.{effect-linked}
+use Rattle.settlement.proofs.Again.{again}
 
 -- ---- OPEN
 
@@ -262,12 +263,26 @@ module _ (o : Opening) (a : Openable o) (h : History) (f : Claims-fit h) where
   unfolding record-after
   shows-next e fit = linked-shows o (record-after o (h ▷ e)) (rules.after o (h ▷ e)) (linked-after o a (h ▷ e) (f, fit))
 
+  -- a repeat answers the bit that stands in the record
+  repeat-stays : (e : Event) → Repeat o e h → played r e ≡ record { number = 0; settlement = r }
+  unfolding played outcome
+  repeat-stays (claim s v) x = absurd x
+  repeat-stays (deliver t s) x = absurd x
+  repeat-stays (step s) x = absurd x
+  repeat-stays (lose s) x = absurd x
+  repeat-stays (answer b v) x =
+      let stands = play-proofs.told .words o h .repeats b v .0 x .1 in
+      again r b v (ballot-answered o a r (rules.after o h) linked (reached o h) b ∙ ap play.answered stands)
+      (numbers (answer b v) ∙ figure-proofs.demand2 .holds o a h f .repeated (answer b v) x .accepted)
+
   demand2 : Demand2-of-records o h
   demand2 =
       let d = figure-proofs.demand2 .holds o a h f in record {
         shown = (rules.after o h, linked-shows o r (rules.after o h) linked, d .shown);
         accepted = λ e fit z.
-            let x = d .accepted e (sym (numbers e) ∙ z) in (x .0, x .1, (rules.after o (h ▷ e), shows-next e fit, x .2));
+            ⊎-elim (λ x. inl (x .0, x .1, (rules.after o (h ▷ e), shows-next e fit, x .2))) (λ x. inr x) (d .accepted e (sym (numbers e) ∙ z));
+        repeated = λ e x.
+            let y = d .repeated e x in record { accepted = repeat-stays e x; not-allowed = y .not-allowed; figure-stays = y .figure-stays };
         allowed = λ e fit y step.
             let x = d .allowed e y step in (numbers e ∙ x .0, (rules.after o (h ▷ e), shows-next e fit, x .1));
       }

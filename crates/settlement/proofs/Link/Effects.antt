@@ -34,7 +34,6 @@ use Rattle.entry.specs.declared.entry.Stage.{Stage}
 use Rattle.entry.specs.declared.entry.Stage.the-variants.{Idle, Waiting, Voting, Awaiting, Seeking, FinishVoting, FinishAwaiting, Decided}
 use Rattle.entry.specs.declared.entry.Station.{Station}
 use Rattle.entry.specs.declared.entry.Ballot.{Ballot}
-use Rattle.basics.proofs.Lists.{set-again}
 use Rattle.settlement.specs.declared.record.Settlement.{Settlement}
 use Rattle.entry.specs.Entries.{ballot-entries, blank-station, blank-ballot, bit-ballot, spelled, claiming, holding, losing, moved, casting, answering}
 use Rattle.settlement.specs.Record.{entry, ballot, with-station, with-ballot}
@@ -46,18 +45,10 @@ use Rattle.event.specs.Change.{own-after, ballot-after}
 use Rattle.settlement.specs.Events.{effect}
 use Rattle.settlement.specs.Link.{rule-number, stage-of}
 use Rattle.settlement.proofs.Range.{round-below}
+use Rattle.settlement.proofs.Stays.{ballot-again, station-again}
 use Rattle.settlement.proofs.Link.Faultless.{faultless}
 use Rattle.settlement.proofs.Link.Linked.{Early, Entry-shows, Linked, own-linked, vote-linked, answer-linked}
 use Rattle.settlement.proofs.Link.Numbers.{idle-same, ballot-of-round, ballot-answered, answer-same}
-
--- an entry stored again leaves the record as it was
-ballot-again : (b : ℕ) (r : Settlement) → with-ballot b (ballot r b) r ≡ r
-ballot-again b r =
-    ap (λ (q : List Ballot). record { count = r .count; rule = r .rule; stations = r .stations; ballots = q }) (set-again (r .ballots) b blank-ballot)
-
-station-again : (s : ℕ) (r : Settlement) → with-station s (entry r s) r ≡ r
-station-again s r =
-    ap (λ (q : List Station). record { count = r .count; rule = r .rule; stations = q; ballots = r .ballots }) (set-again (r .stations) s blank-station)
 
 -- numbers that a byte would bend, where the record test holds
 next-round-is : (k : ℕ) → k < claim-bits → next-round k ≡ suc k

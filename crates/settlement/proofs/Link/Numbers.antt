@@ -2,7 +2,7 @@
 -- Assumes nothing.
 use Prim.Native.Nat.{ℕ, suc, _*_, _<_}
 use mathlib.Core.Path.{_≡_, refl, sym, subst, _∙_, ap, ap₂}
-use mathlib.Core.Bool.{Bool, true, false, cond, not, _&&_, _||_}
+use mathlib.Core.Bool.{Bool, true, false, cond, not, _&&_, _||_, Bool·beq}
 use mathlib.Core.Option.{Option, none, some}
 use native.Mathlib.Omega.{arith}
 use lib.Dec.{eqb, ltb, eqb·suc-suc}
@@ -52,6 +52,19 @@ answered-same t x e = by-bool (t .answered) (λ p. p ∙ ap play.answered (sym (
 -- an answered ballot's bit
 pub answer-same : (t : Ballot) (x : Option Bool) → answer-in t ≡ x → t .answered ≡ true → x ≡ some (t .answer)
 answer-same t x e p = sym e ∙ ap (λ (b : Bool). cond b (some (t .answer)) none) p
+
+-- ANSWER's last two tests, beside the answer that the entry stands for
+stands-same : (t : Ballot) (y : Option Bool) (a c : Bool) → answer-in t ≡ y
+    → refuse (t .answered && not (Bool·beq (t .answer) a)) 11 (refuse (not (t .answered) && not c) 12 0) ≡ rules.answer-number y a c
+stands-same t y a c e =
+    by-bool (t .answered)
+    (λ p. with-mark p ∙ ap (λ (z : Option Bool). rules.answer-number z a c) (sym (answer-same t y e p)))
+    (λ p. with-mark p ∙ ap (λ (z : Option Bool). rules.answer-number z a c) (sym (ap (λ (b : Bool). cond b (some (t .answer)) none) p) ∙ e))
+  where
+    with-mark : {b : Bool} → t .answered ≡ b
+        → refuse (t .answered && not (Bool·beq (t .answer) a)) 11 (refuse (not (t .answered) && not c) 12 0)
+        ≡ refuse (b && not (Bool·beq (t .answer) a)) 11 (refuse (not b && not c) 12 0)
+    with-mark p = ap (λ (x : Bool). refuse (x && not (Bool·beq (t .answer) a)) 11 (refuse (not x && not c) 12 0)) p
 
 pub bit-ballot-same : (r : Rule) (k : ℕ) → cond (eqb (rule-number r) 1) k (2 * k) ≡ bit-ballot-by r k
 bit-ballot-same rule-1 k = refl
@@ -158,7 +171,9 @@ module _ (o : Opening) (a : Openable o) (r : Settlement) (st : play.State) (l : 
       refuse-both _ _ _ _ _ (ap (λ (n : ℕ). not (ltb b n)) ballots-count)
       (λ e.
       refuse-both (ltb 1 v) (ltb 1 v) _ _ _ refl
-      (λ f. refuse-both _ _ _ _ _ (ballot-answered b) (λ g. refuse-both _ _ _ 0 0 (ap not (l .cast b (as-bit v))) (λ h. refl))))
+      (λ f.
+      stands-same (ballot r b) (st .answer-of b) (as-bit v) _ (l .answer b)
+      ∙ ap (rules.answer-number (st .answer-of b) (as-bit v)) (l .cast b (as-bit v))))
 
   pub number-same : Short o st → (e : Event) → number r e ≡ rules.number o st e
   unfolding number first-met
