@@ -1,6 +1,6 @@
--- Case splits that keep their equation, and tests joined by "and", "or" and "not". Assumes nothing.
+-- Case splits that keep their equation, tests joined by "and", "or" and "not", and two Bools compared. Assumes nothing.
 use mathlib.Core.Path.{_≡_, refl, sym, _∙_}
-use mathlib.Core.Bool.{Bool, true, false, cond, not, _&&_, _||_, true≢false}
+use mathlib.Core.Bool.{Bool, true, false, cond, not, _&&_, _||_, Bool·beq, true≢false}
 
 unfoldable pub by-bool {ℓ} : {C : Type ℓ} (b : Bool) → (b ≡ true → C) → (b ≡ false → C) → C
 by-bool true f g = f refl
@@ -28,3 +28,13 @@ or-none false = refl
 pub or-false : (a b : Bool) → (a || b) ≡ false → (a ≡ false) × (b ≡ false)
 or-false true b e = absurd (true≢false e)
 or-false false b e = (refl, e)
+
+pub beq-same : (a : Bool) → Bool·beq a a ≡ true
+beq-same true = refl
+beq-same false = refl
+
+pub beq-true : (a b : Bool) → Bool·beq a b ≡ true → a ≡ b
+beq-true true true e = refl
+beq-true true false e = absurd (true≢false (sym e))
+beq-true false true e = absurd (true≢false (sym e))
+beq-true false false e = refl

@@ -1,10 +1,10 @@
--- "An event was accepted" is what the play's state shows: held, put in, lost, answered, answered with a bit. Each is made by one kind
--- of event and stays, so one law serves all five. Assumes nothing.
+-- "An event was accepted" is what the play's state shows: held, put in, lost, answered. Each is made by one kind of event and stays,
+-- so one law serves all four. Assumes nothing.
 use Prim.Native.Nat.{ℕ, suc, _+_, _%_, _≤_}
 use mathlib.Core.Path.{_≡_, refl, sym, subst, _∙_, ap}
 use mathlib.Core.Logic.{_⊎_, inl, inr, _↔_}
 use mathlib.Core.Bool.{Bool, true, false, _&&_}
-use mathlib.Core.Option.{Option, some, Option·none-ne-some, Option·some-injective}
+use mathlib.Core.Option.{Option, none, some, Option·none-ne-some, Option·some-injective}
 use native.Mathlib.Omega.{arith}
 use lib.Dec.{eqb}
 use borrow.Author.Tests.{eqb-true, eqb-false}
@@ -125,7 +125,7 @@ one-bit c a l m e = by-bool (eqb c 1) (λ p. eqb-true c 1 p ∙ sym (eqb-true a 
     zero : (n : ℕ) → n ≤ 1 → (n ≡ 1 → ⊥) → n ≡ 0
     zero n l x = omega arith
 
--- ---- the five marks
+-- ---- the four marks
 
 module _ (o : Opening) where
   held-mark : (s t : ℕ) → Mark o (λ e. e ≡ deliver t s) (λ st. held st s t ≡ true)
@@ -210,44 +210,6 @@ module _ (o : Opening) where
     λ x. let r = marker o _ _ (claim-mark s v) h x in subst (λ (e : Event). Happened o e h) (r .1) (r .2),
   )
 
-  abbrev Answers : ℕ → Event → Type 0
-  Answers b e = (a : ℕ) × (e ≡ answer b a)
-
-  abbrev Has-answer : ℕ → State → Type 0
-  Has-answer b st = answered (st .answer-of b) ≡ true
-
-  answer-mark : (b : ℕ) → Mark o (Answers b) (Has-answer b)
-  unfolding effect
-  answer-mark b = record {
-    made = λ st e k n. subst (λ (x : Event). Has-answer b (effect o st x)) (sym (k .1)) (ap answered (update-same (st .answer-of) b _));
-    kept = λ st e n x. kept st x e;
-    only = λ st e n x. only st e x;
-    unmarked = λ x. no-clash true refl (sym x);
-  }
-    where
-      kept : (st : State) → Has-answer b st → (e : Event) → Has-answer b (effect o st e)
-      kept st x (claim s v) = x
-      kept st x (deliver t s) = x
-      kept st x (step s) = x
-      kept st x (lose s) = x
-      kept st x (answer c a) = update-ind (λ (y : Option Bool). answered y ≡ true) (st .answer-of) c _ b (λ q. refl) (λ ne. x)
-
-      only : (st : State) (e : Event) → Has-answer b (effect o st e) → Has-answer b st ⊎ Answers b e
-      only st (claim s v) x = inl x
-      only st (deliver t s) x = inl x
-      only st (step s) x = inl x
-      only st (lose s) x = inl x
-      only st (answer c a) x =
-          update-ind (λ (y : Option Bool). answered y ≡ true → Has-answer b st ⊎ Answers b (answer c a)) (st .answer-of) c _ b
-          (λ q y. inr (a, ap (λ (i : ℕ). answer i a) (sym q)))
-          (λ ne y. inl y) x
-
-  pub answered-shown : (b : ℕ) (h : History) → Answered o b h ↔ (answered (after o h .answer-of b) ≡ true)
-  answered-shown b h = (
-    λ a. marked o _ _ (answer-mark b) h _ (a .0, refl) (a .1),
-    λ x. let r = marker o _ _ (answer-mark b) h x in (r .1 .0, subst (λ (e : Event). Happened o e h) (r .1 .1) (r .2)),
-  )
-
   -- an ANSWER of the bit that stands was accepted before, and its number is 0 or 1
   abbrev Gives : (b a : ℕ) → Event → Type 0
   Gives b a e = (c : ℕ) × (e ≡ answer b c) × (as-bit c ≡ as-bit a)
@@ -299,3 +261,11 @@ module _ (o : Opening) where
         let y = subst (λ (e : Event). Happened o e h) (r .1 .1) (r .2) in
         subst (λ (c : ℕ). Happened o (answer b c) h) (one-bit (r .1 .0) a (small-bit b _ h y) (x .0) (r .1 .2)) y,
   )
+
+  pub answered-shown : (b : ℕ) (h : History) → Answered o b h ↔ (answered (after o h .answer-of b) ≡ true)
+  answered-shown b h = (λ x. ap answered (repeats-shown b (x .0) h .0 (x .1) .1), go (after o h .answer-of b) refl)
+    where
+      go : (y : Option Bool) → after o h .answer-of b ≡ y → answered y ≡ true → Answered o b h
+      go none q e = no-clash true refl (sym e)
+      go (some true) q e = (1, repeats-shown b 1 h .1 (omega arith, q))
+      go (some false) q e = (0, repeats-shown b 0 h .1 (omega arith, q))

@@ -1,13 +1,13 @@
 -- Updates of a function at one place, and bits that were cast. Assumes nothing.
 use Prim.Native.Nat.{ℕ}
-use mathlib.Core.Path.{_≡_, refl, sym}
+use mathlib.Core.Path.{_≡_, refl, sym, ap}
 use mathlib.Core.Bool.{Bool, true, false, cond, true≢false}
 use mathlib.Core.Option.{Option, none, some}
 use lib.Dec.{eqb}
 use borrow.Author.Tests.{eqb-true, eqb-false}
 use Rattle.consensus.specs.State.{update}
 use Rattle.consensus.specs.Rules.{is-bit}
-use Rattle.basics.proofs.Bools.{cond-ind}
+use Rattle.basics.proofs.Bools.{cond-ind, beq-true}
 
 -- what holds of the new value, and of each old one, holds of an updated function's values
 pub update-ind : {A : Type 0} (C : A → Type 0) (f : ℕ → A) (i : ℕ) (x : A) (j : ℕ) → (j ≡ i → C x) → ((j ≡ i → ⊥) → C (f j)) → C (update f i x j)
@@ -32,7 +32,4 @@ update-other f i x j ne = update-ind (λ y. y ≡ f j) f i x j (λ e. absurd (ne
 
 pub is-bit-some : (a : Bool) (x : Option Bool) → is-bit a x ≡ true → x ≡ some a
 is-bit-some a none e = absurd (true≢false (sym e))
-is-bit-some true (some true) e = refl
-is-bit-some true (some false) e = absurd (true≢false (sym e))
-is-bit-some false (some true) e = absurd (true≢false (sym e))
-is-bit-some false (some false) e = refl
+is-bit-some a (some x) e = ap (λ (y : Bool). some y) (beq-true x a e)

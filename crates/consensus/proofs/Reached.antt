@@ -11,7 +11,7 @@ use Rattle.consensus.specs.Events.{Event, claim, deliver, step, lose, an
 use Rattle.consensus.specs.State.{Stage, idle, waiting, voting, awaiting, seeking, finish-voting, finish-awaiting, decided, State, fresh, not-idle, claimed, held, update, set-station}
 use Rattle.consensus.specs.Rules.{no-station, was-cast, is-bit, as-bit, answer-number, stage-number, number, claiming, holding, losing, step-from, effect, next, after}
 use Rattle.consensus.proofs.Basics.{update-ind, is-bit-some}
-use Rattle.basics.proofs.Bools.{cond-ind, no-clash, not-false→true, or-false}
+use Rattle.basics.proofs.Bools.{cond-ind, no-clash, not-false→true, or-false, beq-same}
 use Rattle.basics.proofs.Refusals.{refused-not}
 use Rattle.basics.proofs.Below.{any-found}
 use Rattle.consensus.proofs.Invariant.{Part-ok, Inv, Stage-ok, Spelling}
@@ -25,10 +25,6 @@ unfolding next
 next-ind C o st e old new = cond-ind C (eqb (number o st e) 0) (effect o st e) st (λ p. new (eqb-true _ 0 p)) (λ p. old)
 
 -- ---- what an accepted event tells
-
-same-bit : (a : Bool) → Bool·beq a a ≡ true
-same-bit true = refl
-same-bit false = refl
 
 pub station-below : (o : Opening) (s : ℕ) → no-station o s ≡ false → s < o .count
 station-below o s e = ltb-true s (o .count) (not-false→true (ltb s (o .count)) e)
@@ -128,7 +124,7 @@ module _ (o : Opening) (st : State) where
   -- the bit that stands is accepted again
   pub again-accepted : (b a : ℕ) → b < ballots o → a ≤ 1 → Stands b a → number o st (answer b a) ≡ 0
   unfolding number
-  again-accepted b a l m e = rw (lt-ltb b (ballots o) l, le-ltb 1 a m, e, same-bit (as-bit a))
+  again-accepted b a l m e = rw (lt-ltb b (ballots o) l, le-ltb 1 a m, e, beq-same (as-bit a))
 
   -- and changes nothing
   pub answer-again : (b a : ℕ) → Stands b a → effect o st (answer b a) ≡ st

@@ -3,7 +3,7 @@
 -- a little wider or narrower still bears the demand; here it is noticed. Assumes nothing.
 use Prim.Native.Nat.{ℕ}
 use mathlib.Core.Path.{_≡_}
-use mathlib.Core.Bool.{Bool, true, false}
+use mathlib.Core.Bool.{true, false}
 use mathlib.Core.List.{List, [], _∷_, map}
 use Rattle.consensus.specs.Events.{claim, deliver, step, lose, answer, History, start, _▷_, Rule, rule-1, rule-2, Opening, Openable, rounds, ballots}
 use Rattle.consensus.specs.Terms.{Repeat, voted-in, answers-taken, Decided, longest}

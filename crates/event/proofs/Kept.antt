@@ -2,16 +2,16 @@
 -- touched only by events that leave the part as it was. Assumes nothing.
 use Prim.Native.Nat.{ℕ}
 use mathlib.Core.Path.{_≡_, refl, sym, ap, _∙_}
-use mathlib.Core.Bool.{Bool, true, false, cond, not, _&&_, _||_, Bool·beq, true≢false}
+use mathlib.Core.Bool.{Bool, true, false, not, _&&_, _||_, Bool·beq, true≢false}
 use lib.Dec.{eqb, ltb}
 use borrow.Author.Tests.{eqb-true, eqb-false, ltb-true, ltb-false}
 use Rattle.basics.specs.Tests.{first-met}
-use Rattle.basics.proofs.Bools.{by-bool, cond-ind, no-clash, not-false→true}
+use Rattle.basics.proofs.Bools.{by-bool, cond-ind, no-clash, not-false→true, beq-true}
 use Rattle.basics.proofs.Refusals.{refused-not}
 use Rattle.bits.specs.Words.{mask-bits, member, insert}
 use Rattle.bits.proofs.Words.{word-outside}
 use Rattle.bits.proofs.Masks.{member-same, member-other}
-use Rattle.consensus.specs.Events.{Event, claim, deliver, step, lose, answer}
+use Rattle.consensus.specs.Events.{claim, deliver, step, lose, answer}
 use Rattle.consensus.specs.Rules.{as-bit}
 use Rattle.entry.specs.declared.entry.Stage.{Stage}
 use Rattle.entry.specs.declared.entry.Stage.the-variants.{Idle, Waiting, Voting, Awaiting, Seeking, FinishVoting, FinishAwaiting, Decided}
@@ -98,18 +98,12 @@ answer-cast t x true p = p
 answer-cast t x false p = p
 
 -- an accepted ANSWER of an answered ballot has the bit that stands
-same-bit : (x y : Bool) → not (Bool·beq x y) ≡ false → y ≡ x
-same-bit true true e = refl
-same-bit true false e = no-clash true refl e
-same-bit false true e = no-clash true refl e
-same-bit false false e = refl
-
 answer-same : (v : View) (b a : ℕ) → number-on v (answer b a) ≡ 0 → v .ballot .answered ≡ true → as-bit a ≡ v .ballot .answer
 unfolding first-met
 answer-same v b a e p =
     let later = refused-not (ltb 1 a) _ _ refl (refused-not (not (ltb b (ballots (v .count) (v .rule)))) _ _ refl e .1) .1 in
     let same = refused-not (v .ballot .answered && not (Bool·beq (v .ballot .answer) (as-bit a))) _ _ refl later .0 in
-    same-bit (v .ballot .answer) (as-bit a) (rw p at same)
+    sym (beq-true (v .ballot .answer) (as-bit a) (not-false→true _ (rw p at same)))
 
 answer-kept : (v : View) (b a : ℕ) → number-on v (answer b a) ≡ 0 → Kept v (answer b a)
 unfolding first-met own-after ballot-after

@@ -9,17 +9,15 @@ use lib.Dec.{eqb, ltb}
 use borrow.Author.Tests.{eqb-true, eqb-false, eq-eqb, ltb-true, ltb-false, lt-ltb, le-ltb, not-true}
 use Rattle.basics.specs.Tests.{refuse, first-met}
 use Rattle.bits.specs.Words.{member}
-use Rattle.consensus.specs.Events.{Event, claim, deliver, step, lose, answer}
+use Rattle.consensus.specs.Events.{claim, deliver, step, lose, answer}
 use Rattle.consensus.specs.Rules.{finish-ballot, as-bit}
 use Rattle.entry.specs.declared.entry.Stage.{Stage}
 use Rattle.entry.specs.declared.entry.Stage.the-variants.{Idle, Waiting, Awaiting, FinishAwaiting, Decided}
-use Rattle.entry.specs.declared.entry.Ballot.{Ballot}
-use Rattle.entry.specs.Stages.{at, not-idle, is-decided}
-use Rattle.entry.specs.Entries.{no-station, ballots, was-cast}
+use Rattle.entry.specs.Stages.{at, not-idle}
+use Rattle.entry.specs.Entries.{ballots, was-cast}
 use Rattle.entry.proofs.Stages.{told-apart}
 use Rattle.event.specs.declared.view.View.{View}
 use Rattle.event.specs.Tests.{must-wait, last-ballot, takes-last-no}
-use Rattle.event.specs.Change.{number-on}
 use Rattle.event.specs.Numbers.{Met, Must-wait, Takes-last-no, Nobody-cast, Number-is, Entry-numbers}
 
 -- ---- tests and sentences

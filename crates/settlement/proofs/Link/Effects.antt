@@ -3,7 +3,6 @@
 use Prim.Native.Nat.{ℕ, suc, _+_, _%_, _<_, _≤_}
 use mathlib.Core.Path.{_≡_, refl, sym, subst, _∙_, ap, ap₂}
 use mathlib.Core.Bool.{Bool, true, false, cond, _&&_, _||_}
-use mathlib.Core.List.{List}
 use mathlib.Core.Option.{Option, none, some}
 use native.Mathlib.Omega.{arith}
 use native.Mathlib.Nat.{le-refl, lt-of-lt-of-le, mod-lt, mod-eq-of-lt}
@@ -33,9 +32,8 @@ use Rattle.consensus.proofs.Reached.{claim-accepted, deliver-accepted, step-acc
 use Rattle.entry.specs.declared.entry.Stage.{Stage}
 use Rattle.entry.specs.declared.entry.Stage.the-variants.{Idle, Waiting, Voting, Awaiting, Seeking, FinishVoting, FinishAwaiting, Decided}
 use Rattle.entry.specs.declared.entry.Station.{Station}
-use Rattle.entry.specs.declared.entry.Ballot.{Ballot}
 use Rattle.settlement.specs.declared.record.Settlement.{Settlement}
-use Rattle.entry.specs.Entries.{ballot-entries, blank-station, blank-ballot, bit-ballot, spelled, claiming, holding, losing, moved, casting, answering}
+use Rattle.entry.specs.Entries.{ballot-entries, bit-ballot, spelled, claiming, holding, losing, moved, casting, answering}
 use Rattle.settlement.specs.Record.{entry, ballot, with-station, with-ballot}
 use Rattle.event.specs.declared.view.View.{View}
 use Rattle.entry.specs.Stages.{not-idle, in-round, on-finish}
