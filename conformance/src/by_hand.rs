@@ -1,5 +1,5 @@
-//! The stored script of `lent_case`, by topic. Each number beside a call is written from document 01 by hand; the plain reading in `record.rs`
-//! has to give it too, and the program.
+//! The stored script of `lent_case`, by topic. Each number beside a call is written by hand from document 01 and, for answers that come twice,
+//! from request A.1 of document 02; the plain reading in `record.rs` has to give it too, and the program.
 
 use crate::log::{written, Field};
 use crate::model::Event;
@@ -22,6 +22,7 @@ pub fn script() -> Script {
     hand.last_ballot();
     hand.stays();
     hand.orders();
+    hand.repeats();
     hand.lengths();
     hand.bodies();
     hand.rests();
@@ -165,7 +166,9 @@ impl Hand {
     }
 
     fn case_s(&mut self) {
-        self.heading("Case S, event by event through the lent entries, and some that are refused after it");
+        self.heading(
+            "Case S, event by event through the lent entries; after it some that are refused, and its answer again",
+        );
         self.call(Command::Open { n: 2, rule: 1 }, &[0]);
         for (s, v) in [(0, 7), (1, 9)] {
             self.event(Event::Claim { s, v }, 0);
@@ -187,6 +190,8 @@ impl Hand {
         self.event(Event::Lose { s: 1 }, 0);
         self.event(Event::Lose { s: 1 }, 2);
         self.look(1, [0, 1, 9, 1]);
+        self.event(Event::Answer { b: 0, a: 1 }, 0);
+        self.event(ANSWER, 11);
         self.0.show_record();
     }
 
@@ -441,7 +446,7 @@ impl Hand {
         ] {
             self.event(event, number);
         }
-        self.heading("DELIVER: t has put in no claim, 4, before already held, 5; ANSWER: above 1, 10, before answered, 11, before not cast, 12");
+        self.heading("DELIVER: t has put in no claim, 4, before already held, 5; ANSWER: above 1, 10, before the other bit, 11, before not cast, 12");
         self.made(2, 1, 0, Station { held: 3, ..IDLE });
         self.event(Event::Deliver { t: 1, s: 0 }, 4);
         self.event(DELIVER, 4);
@@ -450,7 +455,69 @@ impl Hand {
         self.make(Command::MakeBallot(0, Ballot { cast: [false; 2], answered: true, answer: false }));
         self.event(Event::Answer { b: 0, a: 2 }, 10);
         self.event(Event::Answer { b: 0, a: 1 }, 11);
-        self.event(ANSWER, 11);
+    }
+
+    /// Made up: whether 0 and 1 were cast in ballot 0, whether it is answered, and its answer.
+    fn ballot(&mut self, marks: [u64; 4]) {
+        let [zero, one, answered, answer] = marks.map(|mark| mark == 1);
+        self.make(Command::MakeBallot(0, Ballot { cast: [zero, one], answered, answer }));
+    }
+
+    /// ANSWER 0, a: its number, and the ballot's marks afterwards.
+    fn answer(&mut self, a: u8, number: u8, marks: [u64; 4]) {
+        self.event(Event::Answer { b: 0, a }, number);
+        self.call(Command::ShowBallot(0), &marks);
+    }
+
+    fn repeats(&mut self) {
+        self.heading(
+            "the answer a ballot already has is accepted again and changes nothing; 11 is for the other bit only",
+        );
+        for (zero, one) in [(0, 0), (1, 0), (0, 1), (1, 1)] {
+            for a in [0, 1] {
+                let marks = [zero, one, 1, a.into()];
+                self.ballot(marks);
+                self.event(Event::Answer { b: 0, a: 1 - a }, 11);
+                self.answer(a, 0, marks);
+            }
+        }
+        self.event(Event::Answer { b: 0, a: 2 }, 10);
+        self.answer(1, 0, [1, 1, 1, 1]);
+        self.unanswered();
+        self.no_ballots();
+        self.played_twice();
+    }
+
+    fn unanswered(&mut self) {
+        self.heading("12 is met only where no answer stands, whatever the answer's mark is");
+        for (a, marks) in [(0, [0, 0, 0, 0]), (1, [0, 0, 0, 1]), (1, [1, 0, 0, 1]), (0, [0, 1, 0, 0])] {
+            self.ballot(marks);
+            self.event(Event::Answer { b: 0, a }, 12);
+        }
+        self.ballot([1, 0, 0, 1]);
+        self.answer(0, 0, [1, 0, 1, 0]);
+        self.answer(1, 11, [1, 0, 1, 0]);
+    }
+
+    fn no_ballots(&mut self) {
+        self.heading("an answer in the entry of no ballot: 9; in a faulty record: 42; in the last ballot");
+        let answered = Ballot { cast: [false; 2], answered: true, answer: true };
+        for (n, rule, b, number) in [(32, 1, 5, 9), (0, 2, 0, 9), (33, 2, 0, 42), (2, 2, 63, 0)] {
+            self.make(Command::MakeHead { n, rule });
+            self.make(Command::MakeBallot(b, answered));
+            self.event(Event::Answer { b, a: 1 }, number);
+        }
+        self.call(Command::ShowBallot(63), &[0, 0, 1, 1]);
+    }
+
+    fn played_twice(&mut self) {
+        self.heading("A repeat counts as a played event: RUN");
+        let voted = [Event::Claim { s: 0, v: 4 }, DELIVER, STEP, STEP, ANSWER];
+        for (limit, a, numbers) in [(5, 0, [5, 31, 26]), (9, 0, [6, 36, 0]), (9, 1, [5, 31, 11])] {
+            let log = written(2, 2, &[&voted[..], &[Event::Answer { b: 0, a }]].concat());
+            self.call(Command::Run { limit, log }, &numbers);
+            self.call(Command::ShowBallot(0), &[1, 0, 1, 0]);
+        }
     }
 
     fn lengths(&mut self) {

@@ -1,4 +1,4 @@
-//! The edges of document 01, each with what the document says of it.
+//! The edges of document 01, with request A.1 of document 02, each with what the documents say of it.
 
 use crate::judge::{Checked, Judge};
 use crate::log::{self, Field};
@@ -32,6 +32,9 @@ const BYTES: &[(&str, u8)] = &[
     ("01000201013000410000", 22),
     ("0100020101300040", 23),
     ("0100020101300000", 0),
+    // an answer, then the same again, and then the other bit
+    ("010002020210000500000000041100020000120001001200010014000200001400020000", 0),
+    ("0100020202100005000000000411000200001200010012000100140002000014000200001400020001", 11),
 ];
 
 /// The fields that a case's words say.
@@ -103,10 +106,27 @@ fn first_line(judge: &mut Judge) -> Checked {
     expect("S", text::settle(&log).starts_with(line))?;
     let blank = "stations 0 rule 1 ballots 0 events 0 taken 0 status 20\n";
     expect("blank", text::settle(&[]) == blank)?;
-    judge.report(&[])
+    judge.report(&[])?;
+    again(judge)
 }
 
-/// Case H, and the limit before a note, a broken field and a second opening.
+/// 02, A.1: a repeat counts as a played event; the other bit does not, and stops before its field.
+fn again(judge: &mut Judge) -> Checked {
+    for (answers, line) in [
+        ("0 0", "stations 2 rule 2 ballots 64 events 5 taken 31 status 0\n"),
+        ("0 0, 0 0", "stations 2 rule 2 ballots 64 events 6 taken 36 status 0\n"),
+        ("0 0, 0 0, 0 0", "stations 2 rule 2 ballots 64 events 7 taken 41 status 0\n"),
+        ("0 0, 0 1", "stations 2 rule 2 ballots 64 events 5 taken 31 status 11\n"),
+        ("0 0, 0 0, 0 1, 0 0", "stations 2 rule 2 ballots 64 events 6 taken 36 status 11\n"),
+    ] {
+        let log = bytes_of(&format!("open 2 2; claim 0 4; deliver 0 0; step 0, 0; answer {answers}"));
+        expect(answers, text::settle(&log).starts_with(line))?;
+        judge.report(&log)?;
+    }
+    Ok(())
+}
+
+/// Case H, and the limit before a note, a broken field, a second opening and an answer that comes again.
 fn limits(judge: &mut Judge) -> Checked {
     let cases = [
         ("open 2 1", 0, 0),
@@ -118,6 +138,10 @@ fn limits(judge: &mut Judge) -> Checked {
         ("open 2 1; lose 0; note 0", 1, 26),
         ("open 2 1; lose 0, 0", 1, 26),
         ("open 2 1; lose 0, 0", 2, 2),
+        ("open 2 1; claim 0 7; deliver 0 0; step 0, 0; answer 0 0, 0 0", 5, 26),
+        ("open 2 1; claim 0 7; deliver 0 0; step 0, 0; answer 0 0, 0 0", 6, 0),
+        ("open 2 1; claim 0 7; deliver 0 0; step 0, 0; answer 0 0, 0 1", 5, 26),
+        ("open 2 1; claim 0 7; deliver 0 0; step 0, 0; answer 0 0, 0 1", 6, 11),
         ("open 0 1; lose 0", 0, 40),
         ("lose 0", 0, 24),
     ];

@@ -1,5 +1,5 @@
-//! Rows with literal bytes, written from the image's table and document 01 by hand, so that no error of `image.rs` goes through
-//! because the subject makes it too. Places: station s begins at 3 + 20 s, ballot b at 643 + 4 b.
+//! Rows with literal bytes, written from the image's table, document 01 and request A.1 of document 02 by hand, so that no error of
+//! `image.rs` goes through because the subject makes it too. Places: station s begins at 3 + 20 s, ballot b at 643 + 4 b.
 
 use crate::image_judge::ImageJudge;
 use crate::judge::{hex, Checked};
@@ -23,8 +23,10 @@ pub fn check(judge: &mut ImageJudge) -> Checked {
     no_images(judge)?;
     tests(judge)?;
     last_ballot(judge)?;
+    repeats(judge)?;
     looks(judge)?;
     texts(judge)?;
+    answered_twice(judge)?;
     logs(judge)
 }
 
@@ -151,14 +153,19 @@ fn by_station(judge: &mut ImageJudge) -> Checked {
     hand.event(Event::Answer { b: 1, a: 1 }, 9, &[])?;
     hand.event(Event::Answer { b: 0, a: 2 }, 10, &[])?;
     hand.event(Event::Answer { b: 0, a: 1 }, 0, &[(645, 1), (646, 1)])?;
+    hand.event(Event::Answer { b: 0, a: 1 }, 0, &[])?;
     hand.event(ANSWER, 11, &[])?;
     hand.step(0, &[(3, 4), (18, 1)])?;
+    hand.event(Event::Answer { b: 0, a: 1 }, 0, &[])?;
     // j is 1 now, its claim held and its bit 1: decided
     hand.step(0, &[(3, 7), (5, 1), (19, 0xa0), (22, 9)])?;
     hand.event(STEP, 7, &[])?;
     hand.look(0, 0x0001_0100_a000_0009)?;
     hand.event(LOSE, 0, &[(4, 1)])?;
     hand.event(LOSE, 2, &[])?;
+    hand.event(Event::Lose { s: 1 }, 0, &[(24, 1)])?;
+    hand.event(Event::Answer { b: 0, a: 1 }, 0, &[])?;
+    hand.event(ANSWER, 11, &[])?;
     hand.look(0, 0x0001_0100_a000_0009)?;
     hand.look(2, 0x0100_0000_0000_0000)
 }
@@ -206,6 +213,8 @@ fn high_numbers(judge: &mut ImageJudge) -> Checked {
     hand.event(Event::Answer { b: 63, a: 0 }, 12, &[])?;
     hand.event(Event::Answer { b: 64, a: 0 }, 9, &[])?;
     hand.event(Event::Answer { b: 63, a: 1 }, 0, &[(897, 1), (898, 1)])?;
+    hand.event(Event::Answer { b: 63, a: 1 }, 0, &[])?;
+    hand.event(Event::Answer { b: 63, a: 0 }, 11, &[])?;
     hand.step(31, &[(623, 7), (639, 255), (640, 255), (641, 255), (642, 255)])?;
     hand.look(31, 0x0001_4000_ffff_ffff)
 }
@@ -265,6 +274,36 @@ fn last_ballot(judge: &mut ImageJudge) -> Checked {
     hand(judge, &with(TWO, &[(3, 6), (6, 31), (897, 1), (898, 1)])).event(STEP, 0, &[(3, 7)])
 }
 
+/// Made-up ballots: cast 0 at 643, cast 1 at 644, answered at 645, the answer at 646. An answer is accepted again whether it was cast
+/// or not, and the other bit is 11 whether it was cast or not. Where none stands, the byte at 646 says nothing.
+fn repeats(judge: &mut ImageJudge) -> Checked {
+    let one = Event::Answer { b: 0, a: 1 };
+    for (zero_cast, one_cast) in [(0, 0), (1, 0), (0, 1), (1, 1)] {
+        let cast = [(643, zero_cast), (644, one_cast)];
+        for (answer, same, other) in [(0, ANSWER, one), (1, one, ANSWER)] {
+            let mut hand = hand(judge, &with(ONE, &[&cast[..], &[(645, 1), (646, answer)]].concat()));
+            hand.event(same, 0, &[])?;
+            hand.event(other, 11, &[])?;
+            hand.event(Event::Answer { b: 0, a: 2 }, 10, &[])?;
+        }
+    }
+    for (cast, event) in [((643, 0), ANSWER), ((643, 0), one), ((643, 1), one), ((644, 1), ANSWER)] {
+        hand(judge, &with(ONE, &[cast])).event(event, 12, &[])?;
+        hand(judge, &with(ONE, &[cast, (646, 1)])).event(event, 12, &[])?;
+    }
+    hand(judge, &with(ONE, &[(643, 1), (646, 1)])).event(ANSWER, 0, &[(645, 1), (646, 0)])?;
+    no_ballots(judge)
+}
+
+/// The entry of ballot 1, at 647, is answered 1: no ballot of two stations by station, nor where there are no stations.
+fn no_ballots(judge: &mut ImageJudge) -> Checked {
+    let next = Event::Answer { b: 1, a: 1 };
+    for (head, number) in [(ONE, 9), ([(0, 1), (1, 0), (2, 2)], 9), (TWO, 0), ([(0, 1), (1, 33), (2, 2)], 42)] {
+        hand(judge, &with(head, &[(649, 1), (650, 1)])).event(next, number, &[])?;
+    }
+    Ok(())
+}
+
 /// Votes by stage; the claim of a station that has not decided is 0. Then all stations at once.
 fn looks(judge: &mut ImageJudge) -> Checked {
     for (stage, votes) in [(0, 0), (1, 0), (2, 2), (3, 3), (4, 3), (7, 3)] {
@@ -295,6 +334,20 @@ fn texts(judge: &mut ImageJudge) -> Checked {
     let none = image(&[(0, 1), (1, 0), (2, 2)]);
     let text = judge.report(&none, Counts { events: 1, taken: 2, status: 3 })?;
     agree("a text", &none, "stations 0 rule 2 ballots 0 events 1 taken 2 status 3\n", &text)
+}
+
+/// OPEN 2, 2; CLAIM 0 4; DELIVER 0 0; STEP 0, 0; ANSWER 0 0, and then it comes again, or the other bit does.
+fn answered_twice(judge: &mut ImageJudge) -> Checked {
+    let before =
+        [1, 0, 2, 2, 2, 0x10, 0, 5, 0, 0, 0, 0, 4, 0x11, 0, 2, 0, 0, 0x12, 0, 1, 0, 0x12, 0, 1, 0, 0x14, 0, 2, 0, 0];
+    let due = image(&with(TWO, &[(3, 3), (10, 1), (14, 4), (643, 1), (645, 1)]));
+    for (bit, limit, status) in [(0, 9, 0), (0, 6, 0), (0, 5, 26), (1, 9, 11), (1, 6, 11), (1, 5, 26), (2, 6, 10)] {
+        let log = [&before[..], &[0x14, 0, 2, 0, bit]].concat();
+        let (told, after) = judge.play(&log, limit, 899)?;
+        agree("RUN", &log, status, told)?;
+        agree_bytes("RUN's image", &log, &due, &after)?;
+    }
+    Ok(())
 }
 
 /// OPEN 2, 1; CLAIM 1 9; LOSE 0; LOSE 0, as a log. No opening: the blank settlement.

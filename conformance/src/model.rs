@@ -1,5 +1,5 @@
-//! The settlement of document 01, told as a history: who put in which claim, who holds whose, who is lost,
-//! which ballot has which answer, and each station's own list of what it did.
+//! The settlement of document 01, with request A.1 of document 02, told as a history: who put in which claim, who holds
+//! whose, who is lost, which ballot has which answer, and each station's own list of what it did.
 //! Stage, round, word and cursor are stored nowhere: they are read off that list.
 
 use std::collections::{BTreeMap, BTreeSet};
@@ -294,10 +294,13 @@ impl Play {
         Ok(())
     }
 
+    /// 02, A.1: the answer that a ballot has is accepted again, and nothing happens; the other bit is 11.
     fn answer(&mut self, b: u8, a: u8) -> Result<(), u8> {
         refuse(b >= self.ballots(), 9)?;
         refuse(a > 1, 10)?;
-        refuse(self.answers.contains_key(&b), 11)?;
+        if let Some(&stands) = self.answers.get(&b) {
+            return refuse(stands != a, 11);
+        }
         refuse(!self.was_cast(b, a), 12)?;
         self.answers.insert(b, a);
         Ok(())
