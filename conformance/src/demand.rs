@@ -1,6 +1,7 @@
 //! Demand 3 of document 00, checked on the model's own play of a list, refused events included.
 //! Its words are those of 01, "Lists of events".
 
+use crate::again::{Announced, Met};
 use crate::model::{ceil_log2, length, Event, Play, Rule};
 
 /// How much was checked, so that an empty check shows.
@@ -9,6 +10,8 @@ pub struct Seen {
     pub lists: usize,
     pub accepted: usize,
     pub refused: usize,
+    /// Answers that came twice.
+    pub again: Met,
     pub deciders: usize,
     /// Lists in which two or more stations decided.
     pub shared: usize,
@@ -21,8 +24,10 @@ pub struct Seen {
 pub fn check(n: u8, rule: u8, events: &[Event], seen: &mut Seen) -> Result<(), String> {
     let mut play = Play::open(n, rule).map_err(|number| format!("OPEN gives {number}"))?;
     let mut supplied = [0; 32];
+    let mut announced = Announced::default();
     for &event in events {
-        one_event(&mut play, event, &mut supplied, seen)?;
+        let number = one_event(&mut play, event, &mut supplied, seen)?;
+        announced.event(&play, event, number, &mut seen.again);
     }
     let deciders = deciders(&play).len();
     seen.lists += 1;
@@ -33,7 +38,8 @@ pub fn check(n: u8, rule: u8, events: &[Event], seen: &mut Seen) -> Result<(), S
     Ok(())
 }
 
-fn one_event(play: &mut Play, event: Event, taken: &mut [usize; 32], seen: &mut Seen) -> Result<(), String> {
+/// One event, and its number.
+fn one_event(play: &mut Play, event: Event, taken: &mut [usize; 32], seen: &mut Seen) -> Result<u8, String> {
     let supplied = matches!(event, Event::Step { s } if is_supplied(play, s));
     let due = matches!(event, Event::Step { s } if is_due(play, s));
     let number = play.event(event);
@@ -41,14 +47,12 @@ fn one_event(play: &mut Play, event: Event, taken: &mut [usize; 32], seen: &mut 
     seen.refused += usize::from(refused);
     seen.accepted += usize::from(!refused);
     ensure(!(supplied && due && refused), || format!("a supplied {event:?} is refused with {number}"))?;
-    match event {
-        Event::Step { s } if !refused => {
-            taken[usize::from(s)] += usize::from(supplied);
-            within_bound(play, s, taken[usize::from(s)])?;
-            play.decision(s).map_or(Ok(()), |_| one_settlement(play))
-        }
-        _ => Ok(()),
+    if let (Event::Step { s }, false) = (event, refused) {
+        taken[usize::from(s)] += usize::from(supplied);
+        within_bound(play, s, taken[usize::from(s)])?;
+        play.decision(s).map_or(Ok(()), |_| one_settlement(play))?;
     }
+    Ok(number)
 }
 
 /// P holds its own claim and every claim any station holds, and the ballot it waits on is answered.

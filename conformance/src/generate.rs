@@ -53,6 +53,8 @@ pub struct Mix {
     pub deliver: usize,
     /// Idle stations that claim when their turn comes.
     pub claim: usize,
+    /// Announcements that come twice, once there is one.
+    pub again: usize,
 }
 
 pub fn mix(rng: &mut Rng, n: u8) -> Mix {
@@ -64,6 +66,7 @@ pub fn mix(rng: &mut Rng, n: u8) -> Mix {
         loss: rng.pick(&[0, 0, 0, 1, 3]),
         deliver: rng.pick(&[5, 30, 80, 100]),
         claim: rng.pick(&[5, 50, 100]),
+        again: rng.pick(&[0, 3, 15, 50]),
     }
 }
 
@@ -119,6 +122,10 @@ fn settled(play: &Play) -> bool {
 }
 
 fn next_event(rng: &mut Rng, play: &Play, mix: &Mix) -> Event {
+    // at 0 nothing is drawn: the benchmark's lists stay, but for an answer again after the last decision
+    if mix.again > 0 && !play.answers.is_empty() && rng.chance(mix.again) {
+        return again(rng, play);
+    }
     if rng.chance(mix.any) {
         return any_event(rng, play, mix);
     }
@@ -151,6 +158,14 @@ fn useful_event(rng: &mut Rng, play: &Play, mix: &Mix, s: u8) -> Event {
 fn some_answer(rng: &mut Rng, play: &Play, b: u8) -> Event {
     let cast: Vec<u8> = (0..2).filter(|&a| play.was_cast(b, a)).collect();
     Event::Answer { b, a: rng.pick(&cast) }
+}
+
+/// The answer that a ballot has, once more, or at times the other bit; of the last ballot more often than not.
+fn again(rng: &mut Rng, play: &Play) -> Event {
+    let answers: Vec<(u8, u8)> = play.answers.iter().map(|(&b, &a)| (b, a)).collect();
+    let (last, any) = (answers[answers.len() - 1], rng.pick(&answers));
+    let (b, a) = rng.pick(&[last, any]);
+    Event::Answer { b, a: if rng.chance(85) { a } else { 1 - a } }
 }
 
 /// A number mostly below the end, at times at it or past it.
@@ -192,8 +207,9 @@ pub fn accepted(n: u8, rule: u8, events: &[Event]) -> Vec<Event> {
 }
 
 /// A long list for n stations, two or more: ballot 0 is answered 1, and the claims of the odd stations
-/// come late. The even stations seek until the log has so many bytes; then all goes on to its end. All are accepted.
-pub fn long_list(rng: &mut Rng, n: u8, rule: u8, bytes: usize) -> Vec<Event> {
+/// come late. The even stations seek until the log has so many bytes; then all goes on to its end, where answers come again
+/// in so many percent of the events. All are accepted.
+pub fn long_list(rng: &mut Rng, n: u8, rule: u8, bytes: usize, again: usize) -> Vec<Event> {
     let mut play = Play::open(n, rule).expect("a valid opening");
     let mut events = late_start(rng, n);
     events.iter().for_each(|&event| assert_eq!(play.event(event), 0));
@@ -204,7 +220,7 @@ pub fn long_list(rng: &mut Rng, n: u8, rule: u8, bytes: usize) -> Vec<Event> {
         assert_eq!(play.event(event), 0);
         events.push(event);
     }
-    let to_the_end = Mix { claims: vec![0], any: 0, loss: 0, deliver: 90, claim: 0 };
+    let to_the_end = Mix { claims: vec![0], any: 0, loss: 0, deliver: 90, claim: 0, again };
     events.extend(list(rng, play, &to_the_end, 20_000));
     accepted(n, rule, &events)
 }

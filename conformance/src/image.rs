@@ -140,11 +140,11 @@ pub fn report(image: &[u8], counts: Counts) -> String {
     }
 }
 
-/// RUN: its status, and the bytes afterwards.
-pub fn play(log: &[u8], limit: usize, image: &[u8]) -> (u8, Vec<u8>) {
+/// RUN: its counts, which are 0 with another length, and the bytes afterwards.
+pub fn play(log: &[u8], limit: usize, image: &[u8]) -> (Counts, Vec<u8>) {
     if image.len() != BYTES {
-        return (LENGTH, image.to_vec());
+        return (Counts { events: 0, taken: 0, status: LENGTH }, image.to_vec());
     }
     let (record, counts) = Record::run(log, limit);
-    (counts.status, encode(&record))
+    (counts, encode(&record))
 }

@@ -1,5 +1,6 @@
 //! Compares a subject's operations on images with those of `image.rs`, and counts the numbers that were met.
 
+use crate::again::{self, Met};
 use crate::guarded::Guarded;
 use crate::image;
 use crate::images::Images;
@@ -40,6 +41,9 @@ pub struct ImageJudge<'a> {
     counts: BTreeMap<(&'static str, u8), usize>,
     /// Why each 42.
     pub faults: BTreeMap<&'static str, usize>,
+    /// Answers that came twice, and the logs with one that were played.
+    pub again: Met,
+    pub logs_again: usize,
     pub too_small: usize,
     pub histories: usize,
     /// Lists in which two or more stations decided.
@@ -66,8 +70,8 @@ fn why_42(image: &[u8]) -> &'static str {
 
 impl<'a> ImageJudge<'a> {
     pub fn new(subject: &'a dyn Images) -> ImageJudge<'a> {
-        let (counts, faults) = (BTreeMap::new(), BTreeMap::new());
-        ImageJudge { subject, counts, faults, too_small: 0, histories: 0, shared: 0 }
+        let (counts, faults, again) = (BTreeMap::new(), BTreeMap::new(), Met::default());
+        ImageJudge { subject, counts, faults, again, logs_again: 0, too_small: 0, histories: 0, shared: 0 }
     }
 
     fn count(&mut self, operation: &'static str, number: u8, image: &[u8]) {
@@ -75,6 +79,13 @@ impl<'a> ImageJudge<'a> {
         if number == image::FAULTY {
             *self.faults.entry(why_42(image)).or_default() += 1;
         }
+    }
+
+    /// An event by its number, and an answer that comes twice by its sort.
+    fn count_event(&mut self, image: &[u8], event: Event, number: u8) {
+        self.count(name(event), number, image);
+        let record = image::decode(image).ok();
+        self.again.add(record.and_then(|record| again::on_record(&record, event, number)));
     }
 
     /// OPEN over these bytes: the bytes afterwards.
@@ -93,7 +104,7 @@ impl<'a> ImageJudge<'a> {
         let (number, after) = image::event(image, event);
         let mut lent = Guarded::of(image);
         let answer = self.subject.event(lent.lent(), event);
-        self.count(name(event), number, image);
+        self.count_event(image, event, number);
         same("its number", image, number, answer)
             .and_then(|()| lent.holds("the image afterwards", image, &after))
             .map_err(|why| format!("{event:?}: {why}"))?;
@@ -158,10 +169,11 @@ impl<'a> ImageJudge<'a> {
     /// RUN into a buffer of so many bytes: the status, and the bytes afterwards.
     pub fn play(&mut self, log: &[u8], limit: usize, size: usize) -> Result<(u8, Vec<u8>), String> {
         let before = junk(size);
-        let (status, after) = image::play(log, limit, &before);
+        let (Counts { taken, status, .. }, after) = image::play(log, limit, &before);
         let mut lent = Guarded::of(&before);
         let answer = self.subject.play(log, limit, lent.lent());
         self.count("play", status, &before);
+        self.logs_again += usize::from(again::in_log(&log[..taken]));
         same("RUN's status", log, status, answer)
             .and_then(|()| lent.holds("RUN's image", log, &after))
             .map_err(|why| format!("with limit {limit}: {why}"))?;

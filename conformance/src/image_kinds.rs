@@ -11,13 +11,14 @@ use crate::made_up;
 use crate::model::{Event, Play};
 use crate::record::{Record, Stage};
 
-const KINDS: [fn(&mut ImageJudge, &mut Rng) -> Checked; 11] = [
+const KINDS: [fn(&mut ImageJudge, &mut Rng) -> Checked; 12] = [
     |judge, _| image_rows::check(judge),
     openings,
     other_lengths,
     any_bytes,
     made_up_records,
     last_ballots,
+    marked_ballots,
     one_change,
     every_place,
     short_lists,
@@ -172,6 +173,20 @@ fn some_record(rng: &mut Rng) -> Record {
     Record::run(&log::written(n, rule, &accepted(n, rule, &events)), usize::MAX).0
 }
 
+/// A ballot with any marks, and ANSWERs of it, each on what the one before left.
+fn marked_ballots(judge: &mut ImageJudge, rng: &mut Rng) -> Checked {
+    for _ in 0..4000 {
+        let mut record = some_record(rng);
+        let b = rng.below(usize::from(record.ballot_count()).max(1));
+        record.ballots[b] = made_up::ballot(rng);
+        let mut image = image::encode(&record);
+        for _ in 0..4 {
+            image = judge.event(&image, Event::Answer { b: b as u8, a: rng.pick(&[0, 1]) })?.1;
+        }
+    }
+    Ok(())
+}
+
 /// A record's image as it is, then with one byte changed, then with one entry changed.
 fn one_change(judge: &mut ImageJudge, rng: &mut Rng) -> Checked {
     for _ in 0..1500 {
@@ -302,7 +317,7 @@ fn one_event_more(judge: &mut ImageJudge, rng: &mut Rng, n: u8, rule: u8, events
         play.event(event);
         play
     });
-    let answered = play.answers.keys().next().map(|&b| Event::Answer { b, a: 0 });
+    let answered = play.answers.keys().next().into_iter().flat_map(|&b| [0, 1].map(|a| Event::Answer { b, a }));
     for event in five_events(rng, n).into_iter().chain([Event::Step { s: rng.byte() % n }; 3]).chain(answered) {
         let list = [&accepted[..], &[event]].concat();
         judge.play(&log::written(n, rule, &list), usize::MAX, BYTES)?;

@@ -1,5 +1,6 @@
 //! Compares a subject with the model and counts what was compared.
 
+use crate::again::{self, Met};
 use crate::demand::{self, Seen};
 use crate::log::{self, Counts, Field};
 use crate::model::{Event, Play};
@@ -22,6 +23,8 @@ pub struct Judge<'a> {
     kind: &'static str,
     kinds: Vec<&'static str>,
     counts: BTreeMap<(u8, &'static str), usize>,
+    /// By kind, logs that play an answer again.
+    pub again: Met,
     pub seen: Seen,
     pub reports: usize,
     pub too_long: usize,
@@ -63,6 +66,7 @@ impl<'a> Judge<'a> {
             kind: "",
             kinds: Vec::new(),
             counts: BTreeMap::new(),
+            again: Met::default(),
             seen: Seen::default(),
             reports: 0,
             too_long: 0,
@@ -80,6 +84,12 @@ impl<'a> Judge<'a> {
         *self.counts.entry((number, kind)).or_default() += 1;
     }
 
+    /// A log by its status, and whether it plays an answer again.
+    fn count_run(&mut self, log: &[u8], counts: Counts) {
+        self.count(counts.status, self.kind);
+        self.again.add(again::in_log(&log[..counts.taken]).then_some(self.kind));
+    }
+
     /// The report of a log.
     pub fn report(&mut self, log: &[u8]) -> Checked {
         if log.len() > text::MOST {
@@ -91,7 +101,7 @@ impl<'a> Judge<'a> {
     }
 
     fn settlement(&mut self, log: &[u8], play: Option<&Play>, counts: Counts) -> Checked {
-        self.count(counts.status, self.kind);
+        self.count_run(log, counts);
         self.printed(log, &text::report(play, counts))
     }
 
@@ -136,7 +146,7 @@ impl<'a> Judge<'a> {
             taken: self.subject.taken(log, limit),
             status: self.subject.status(log, limit),
         };
-        self.count(model.status, self.kind);
+        self.count_run(log, model);
         same(&format!("RUN with limit {limit}"), log, model, subject)
     }
 
@@ -217,7 +227,7 @@ impl<'a> Judge<'a> {
         STATUSES.into_iter().filter(|&s| !seen(s)).collect()
     }
 
-    /// Rows by number, columns by kind.
+    /// Rows by number, columns by kind; the last row has the logs that play an answer again.
     pub fn table(&self) -> String {
         let columns = || self.kinds.iter().copied().chain([READ, PUT]);
         let mut numbers: Vec<u8> = self.counts.keys().map(|(number, _)| *number).collect();
@@ -229,7 +239,8 @@ impl<'a> Judge<'a> {
             format!("{number:>6}{cells}\n")
         };
         let rows: String = numbers.iter().map(row).collect();
-        format!("number{head}\n{rows}")
+        let again: String = columns().map(|kind| format!("{:>12}", self.again.times(kind))).collect();
+        format!("number{head}\n{rows} again{again}\n")
     }
 }
 

@@ -1,5 +1,6 @@
 //! Conformance of the exported library with document 01, and its speed beside plain Rust.
 
+pub mod again;
 pub mod by_hand;
 pub mod demand;
 pub mod edges;

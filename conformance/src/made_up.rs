@@ -1,5 +1,6 @@
 //! Random scripts for `lent_case`: records made up around every clause of the record test, events and LOOKs on them, and logs under small limits.
 
+use crate::again::{self, Met};
 use crate::generate::{self, Rng};
 use crate::log::{written, Field};
 use crate::model::{ceil_log2, Event};
@@ -10,12 +11,14 @@ use std::collections::BTreeMap;
 /// How often each number was answered.
 pub type Numbers = BTreeMap<usize, usize>;
 
-/// The numbers of events and LOOKs, and RUN's statuses.
+/// The numbers of events and LOOKs, RUN's statuses, answers that came twice, and the RUNs of logs with one.
 #[derive(Default)]
 pub struct Counts {
     pub events: Numbers,
     pub looks: Numbers,
     pub runs: Numbers,
+    pub again: Met,
+    pub runs_again: usize,
 }
 
 pub fn script(rng: &mut Rng, counts: &mut Counts) -> Script {
@@ -30,20 +33,25 @@ pub fn script(rng: &mut Rng, counts: &mut Counts) -> Script {
     script
 }
 
-fn first(answer: &str) -> usize {
-    answer.split_whitespace().next().and_then(|word| word.parse().ok()).unwrap_or(0)
-}
-
-fn last(answer: &str) -> usize {
-    answer.split_whitespace().last().and_then(|word| word.parse().ok()).unwrap_or(0)
+/// The number at a place of an answer.
+fn at(answer: &str, place: usize) -> usize {
+    answer.split_whitespace().nth(place).and_then(|word| word.parse().ok()).unwrap_or(0)
 }
 
 fn call(script: &mut Script, counts: &mut Counts, command: Command) {
+    let before = script.record.clone();
     let answer = script.call(command.clone());
     match command {
-        Command::Play(_) => *counts.events.entry(first(&answer)).or_default() += 1,
-        Command::Look(_) => *counts.looks.entry(first(&answer)).or_default() += 1,
-        Command::Run { .. } => *counts.runs.entry(last(&answer)).or_default() += 1,
+        Command::Play(event) => {
+            let number = at(&answer, 0);
+            *counts.events.entry(number).or_default() += 1;
+            counts.again.add(again::on_record(&before, event, number as u8));
+        }
+        Command::Look(_) => *counts.looks.entry(at(&answer, 0)).or_default() += 1,
+        Command::Run { log, .. } => {
+            *counts.runs.entry(at(&answer, 2)).or_default() += 1;
+            counts.runs_again += usize::from(again::in_log(&log[..at(&answer, 1)]));
+        }
         _ => {}
     }
 }
@@ -92,7 +100,8 @@ fn broken(rng: &mut Rng, n: u8, station: Station) -> Station {
     }
 }
 
-fn ballot(rng: &mut Rng) -> Ballot {
+/// A ballot with any marks: it may have an answer that nobody cast.
+pub fn ballot(rng: &mut Rng) -> Ballot {
     Ballot { cast: [rng.chance(60), rng.chance(60)], answered: rng.chance(60), answer: rng.chance(50) }
 }
 
@@ -160,8 +169,17 @@ pub fn event(rng: &mut Rng, record: &Record) -> Event {
             b: rng.pick(&[0, 1, 2, 3, 4, 5, 6, 61, 62, 63, 64, any]),
             a: rng.pick(&[0, 1, 0, 1, 2, any]),
         },
+        9 | 10 => again_or_other(rng, record),
         _ => Event::Step { s },
     }
+}
+
+/// An answer that stands in some entry, or the other bit; of ballot 0 where none stands.
+fn again_or_other(rng: &mut Rng, record: &Record) -> Event {
+    let entries = (0..64).zip(&record.ballots).filter(|(_, ballot)| ballot.answered);
+    let answers: Vec<(u8, bool)> = entries.map(|(b, ballot)| (b, ballot.answer)).collect();
+    let (b, answer) = if answers.is_empty() { (0, false) } else { rng.pick(&answers) };
+    Event::Answer { b, a: u8::from(answer != rng.chance(40)) }
 }
 
 fn play(rng: &mut Rng, script: &mut Script, counts: &mut Counts) {
@@ -175,6 +193,9 @@ fn play(rng: &mut Rng, script: &mut Script, counts: &mut Counts) {
         let s = match event {
             Event::Claim { s, .. } | Event::Deliver { s, .. } | Event::Step { s } | Event::Lose { s } => s,
             Event::Answer { b, .. } => {
+                if rng.chance(50) {
+                    call(script, counts, Command::Play(event));
+                }
                 call(script, counts, Command::ShowBallot(b % 64));
                 near
             }

@@ -1,6 +1,7 @@
 //! Compares the exported library with the model of document 01 on many inputs, from a fixed seed.
 //! `--self` compares the plain implementation instead, and needs no archive.
 
+use conformance::again;
 use conformance::edges;
 use conformance::generate::{self, accepted, opening, random_list, Rng};
 use conformance::judge::{Checked, Judge};
@@ -60,11 +61,16 @@ fn print_counts(judge: &Judge) {
          {} supplied steps, {} stations at the bound",
         seen.lists, seen.accepted, seen.refused, seen.deciders, seen.shared, seen.supplied, seen.at_bound
     );
+    print!("{}", seen.again.lines(&again::IN_LISTS));
 }
 
-/// Every status that a log can reach was reached.
+/// Every status that a log can reach was reached, and an answer came again in every way.
 fn complete(judge: &Judge) -> Checked {
-    let missing = judge.missing();
+    let (missing, never) = (judge.missing(), judge.again.missing(&AGAIN, 1));
+    let rare = judge.seen.again.missing(&again::IN_LISTS, LEAST);
+    if !never.is_empty() || !rare.is_empty() {
+        return Err(format!("no answer comes again in {never:?}; fewer than {LEAST} times in lists: {rare:?}"));
+    }
     if missing.is_empty() && judge.seen.shared > 0 && judge.seen.at_bound > 0 {
         Ok(())
     } else {
@@ -86,6 +92,13 @@ const KINDS: [Kind; 10] = [
     ("damaged", damaged),
     ("any bytes", any_bytes),
 ];
+
+/// The kinds in which an answer has to come again.
+const AGAIN: [&str; 8] =
+    ["edges", "every event", "short lists", "settlements", "long logs", "limits", "notes", "damaged"];
+
+/// So often at least for each sort, in lists.
+const LEAST: usize = 100;
 
 fn compare(judge: &mut Judge, rng: &mut Rng) -> Checked {
     for (name, kind) in KINDS {
@@ -133,13 +146,14 @@ fn played(n: u8, rule: u8, events: &[Event]) -> Play {
     play
 }
 
-/// Compares each event after these, and gives back the lists with the accepted ones.
+/// Compares each event after these, and gives back the lists with those that changed something.
 fn after(judge: &mut Judge, n: u8, rule: u8, events: &[Event], claims: [u32; 2]) -> Result<Vec<Vec<Event>>, String> {
     let mut longer = Vec::new();
+    let before = played(n, rule, events);
     for event in events_around(n, claims) {
         let list = [events, &[event]].concat();
         judge.report(&log::written(n, rule, &list))?;
-        if played(n, rule, events).event(event) == 0 {
+        if played(n, rule, &list) != before {
             longer.push(list);
         }
     }
@@ -181,7 +195,7 @@ fn settlements(judge: &mut Judge, rng: &mut Rng) -> Checked {
 fn long_logs(judge: &mut Judge, rng: &mut Rng) -> Checked {
     for n in [2, 8, 32] {
         for rule in [1, 2] {
-            let events = generate::long_list(rng, n, rule, 20_000);
+            let events = generate::long_list(rng, n, rule, 20_000, 10);
             let log = log::written(n, rule, &events);
             judge.list(n, rule, &events)?;
             for size in [65_535, 65_536, 65_537, 100_000] {
@@ -192,7 +206,7 @@ fn long_logs(judge: &mut Judge, rng: &mut Rng) -> Checked {
             }
         }
     }
-    let events = generate::long_list(rng, 32, 1, 4 * 66_000);
+    let events = generate::long_list(rng, 32, 1, 4 * 66_000, 10);
     let log = log::written(32, 1, &events);
     judge.report(&log)?;
     [65_535, 65_536, 65_537, usize::MAX].into_iter().try_for_each(|limit| judge.run(&log, limit))

@@ -96,13 +96,13 @@ fn no_delay(rule: u8) -> Named {
 
 /// 32 stations from their claims to the last decision.
 fn full_log(rule: u8) -> Vec<u8> {
-    written(32, rule, &long_list(&mut Rng::new(SEED), 32, rule, 0))
+    written(32, rule, &long_list(&mut Rng::new(SEED), 32, rule, 0, 0))
 }
 
 /// The longest of these logs that the program settle takes.
 fn late_log(n: u8, rule: u8) -> Vec<u8> {
     let seeking = (0..MOST).rev().step_by(1024);
-    let log = |bytes| written(n, rule, &long_list(&mut Rng::new(SEED), n, rule, bytes));
+    let log = |bytes| written(n, rule, &long_list(&mut Rng::new(SEED), n, rule, bytes, 0));
     seeking.map(log).find(|log| log.len() <= MOST).expect("a log that fits")
 }
 

@@ -54,7 +54,7 @@ fn row(name: String, operations: usize, library: &mut dyn FnMut(), plain: &mut d
 
 /// Events from an opening to the last decision, all of them accepted.
 fn settling(n: u8, rule: u8) -> Vec<Event> {
-    long_list(&mut Rng::new(SEED), n, rule, 0)
+    long_list(&mut Rng::new(SEED), n, rule, 0, 0)
 }
 
 fn opened(library: &impl Images, n: u8, rule: u8) -> ([u8; BYTES], Settlement) {

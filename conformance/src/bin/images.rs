@@ -1,6 +1,7 @@
 //! Compares the operations on images with the model of `image.rs` and of document 01, from a fixed seed.
 //! `--self` compares the plain implementation instead, and needs no archive.
 
+use conformance::again;
 use conformance::generate::Rng;
 use conformance::image_judge::{ImageJudge, LEAST};
 use conformance::image_kinds;
@@ -51,18 +52,24 @@ fn choose(plain: bool) -> Option<(&'static str, &'static dyn Images)> {
 fn print_counts(judge: &ImageJudge) {
     println!("\nOperations on images by number:\n{}", judge.table());
     judge.faults.iter().for_each(|(why, count)| println!("42 for {why}: {count}"));
+    print!("{}", judge.again.lines(&again::ON_RECORDS));
+    println!("{} logs play an answer again", judge.logs_again);
     println!(
         "{} rooms too small for a text; {} LOOKs beside a history; two or more stations decided in {} lists\n",
         judge.too_small, judge.histories, judge.shared
     );
 }
 
-/// Every number of every operation was met often enough, and 42 for every reason.
+/// Every number of every operation was met often enough, and so were 42 for every reason and answers that come twice.
 fn complete(judge: &ImageJudge) -> Checked {
     let missing = judge.missing();
     let rare: Vec<_> = judge.faults.iter().filter(|(_, count)| **count < LEAST).collect();
-    if !missing.is_empty() || !rare.is_empty() {
-        return Err(format!("met fewer than {LEAST} times: {missing:?} {rare:?}"));
+    let again = judge.again.missing(&again::ON_RECORDS, LEAST);
+    if !missing.is_empty() || !rare.is_empty() || !again.is_empty() {
+        return Err(format!("met fewer than {LEAST} times: {missing:?} {rare:?} {again:?}"));
+    }
+    if judge.logs_again < LEAST {
+        return Err(format!("fewer than {LEAST} logs play an answer again"));
     }
     match judge.faults.len() == REASONS && judge.shared > 0 {
         true => Ok(()),

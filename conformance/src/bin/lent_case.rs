@@ -1,6 +1,7 @@
 //! Runs the program `lent_case` on its stored script and on random ones, and compares all that it writes with document 01's answers.
 //! `--store` writes the stored script and its answers to crates/lent_case instead.
 
+use conformance::again::ON_RECORDS;
 use conformance::by_hand;
 use conformance::generate::Rng;
 use conformance::made_up::{self, Counts, Numbers};
@@ -20,6 +21,8 @@ const CRATE: &str = "crates/lent_case";
 const EVENTS: [usize; 14] = [0, 1, 2, 3, 4, 5, 6, 7, 8, 9, 10, 11, 12, 42];
 const LOOKS: [usize; 3] = [0, 1, 42];
 const RUNS: [usize; 2] = [0, 26];
+/// Each sort of answers that come twice so often at least, and logs with one.
+const LEAST: usize = 20;
 
 fn main() -> ExitCode {
     let stores = std::env::args().any(|word| word == "--store");
@@ -68,6 +71,7 @@ fn compare() -> Result<String, String> {
     met("an event", &counts.events, &EVENTS)?;
     met("LOOK", &counts.looks, &LOOKS)?;
     met("RUN", &counts.runs, &RUNS)?;
+    met_again(&counts)?;
     let table =
         |numbers: &Numbers| -> String { numbers.iter().map(|(number, count)| format!(" {number}: {count}")).collect() };
     println!(
@@ -76,7 +80,8 @@ fn compare() -> Result<String, String> {
     );
     println!("events by number:{}", table(&counts.events));
     println!("LOOKs by number:{}", table(&counts.looks));
-    println!("RUNs by status:{}", table(&counts.runs));
+    println!("RUNs by status:{}; {} of logs that play an answer again", table(&counts.runs), counts.runs_again);
+    print!("{}", counts.again.lines(&ON_RECORDS));
     Ok(format!("{:.1} seconds, no difference", start.elapsed().as_secs_f64()))
 }
 
@@ -84,6 +89,14 @@ fn met(what: &str, numbers: &Numbers, due: &[usize]) -> Result<(), String> {
     match due.iter().find(|number| !numbers.contains_key(number)) {
         Some(number) => Err(format!("no script met number {number} of {what}")),
         None => Ok(()),
+    }
+}
+
+fn met_again(counts: &Counts) -> Result<(), String> {
+    let rare = counts.again.missing(&ON_RECORDS, LEAST);
+    match rare.is_empty() && counts.runs_again >= LEAST {
+        true => Ok(()),
+        false => Err(format!("fewer than {LEAST} times: {rare:?}, or a RUN that plays an answer again")),
     }
 }
 
