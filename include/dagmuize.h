@@ -29,7 +29,7 @@ enum {
     DAGMUIZE_WAITS = 8, /* the station waits for its own claim, or for the ballot's answer */
     DAGMUIZE_NO_BALLOT = 9, /* no such ballot */
     DAGMUIZE_NO_BIT = 10, /* the answer is above 1, so it is no bit */
-    DAGMUIZE_ANSWERED = 11, /* the ballot was answered before */
+    DAGMUIZE_ANSWERED = 11, /* the ballot has the other bit as its answer */
     DAGMUIZE_NOT_CAST = 12, /* no station cast that bit in the ballot */
     DAGMUIZE_SHORT = 20, /* fewer than three bytes are left, too few for a field */
     DAGMUIZE_TAG = 21, /* no field has this tag */
@@ -70,7 +70,7 @@ uint8_t dagmuize_deliver(uint8_t *image, size_t image_len, uint8_t t, uint8_t s)
 uint8_t dagmuize_step(uint8_t *image, size_t image_len, uint8_t s);
 /* LOSE: station s is lost for good. 1, 2. */
 uint8_t dagmuize_lose(uint8_t *image, size_t image_len, uint8_t s);
-/* ANSWER: ballot b settles on bit a, which some station cast there. 9, 10, 11, 12. */
+/* ANSWER: ballot b settles on bit a, which some station cast there. 9, 10, 11, 12. The answer that b has is accepted again: every byte stays. */
 uint8_t dagmuize_answer(uint8_t *image, size_t image_len, uint8_t b, uint8_t a);
 
 /* LOOK: how station s stands. 80, 81, 42, 1. The answer's eight bytes, highest first: number, decided (0 or 1), votes, 0, and the claim in four;

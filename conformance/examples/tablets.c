@@ -37,6 +37,9 @@ int main(void) {
     for (ballot = 0; ballot < 2; ballot++) {
         if (dagmuize_answer(hold, sizeof hold, ballot, ballot) != DAGMUIZE_ACCEPTED) return 1;
         for (tablet = 0; tablet < 3; tablet++) advance(tablet);
+        /* an answer may come twice: it changes nothing then, and the other bit is refused */
+        if (dagmuize_answer(hold, sizeof hold, ballot, ballot) != DAGMUIZE_ACCEPTED) return 1;
+        if (dagmuize_answer(hold, sizeof hold, ballot, 1 - ballot) != DAGMUIZE_ANSWERED) return 1;
     }
     if (dagmuize_look_all(hold, sizeof hold, looks, sizeof looks) != 3 * 8) return 1;
     for (tablet = 0; tablet < 3; tablet++) show(tablet, dagmuize_look_of(looks, tablet));

@@ -28,6 +28,8 @@ fn main() -> Result<(), Refusal> {
     for ballot in 0..2 {
         hold.answer(ballot, ballot)?;
         (0..3).for_each(|tablet| advance(&mut hold, tablet));
+        // an answer may come twice: it changes nothing then
+        hold.answer(ballot, ballot)?;
     }
     for (tablet, standing) in hold.look_all()?.iter().enumerate() {
         match standing.decided {

@@ -33,6 +33,9 @@
 //! for tablet in [0, 1] {
 //!     step_until_refused(&mut hold, tablet);
 //! }
+//! // an answer may come twice: it changes nothing then, and the other bit is refused
+//! hold.answer(0, 0)?;
+//! assert_eq!(hold.answer(0, 1).unwrap_err().number(), 11);
 //! hold.answer(1, 1)?;
 //! for tablet in [0, 1] {
 //!     step_until_refused(&mut hold, tablet);

@@ -46,7 +46,8 @@ impl Settlement {
         Refusal::unless_accepted(bytes::lose(&mut self.image, s))
     }
 
-    /// ANSWER: ballot b settles on bit a, which some station cast there. Refused: 9, 10, 11, 12.
+    /// ANSWER: ballot b settles on bit a, which some station cast there. The answer that b has is accepted again, and
+    /// changes nothing. Refused: 9, 10, 11, 12.
     pub fn answer(&mut self, b: u8, a: u8) -> Result<(), Refusal> {
         Refusal::unless_accepted(bytes::answer(&mut self.image, b, a))
     }
@@ -150,6 +151,34 @@ mod tests {
         assert_eq!(number(settlement.answer(0, 1)), 9);
         assert_eq!(settlement, before);
         assert_eq!(number(Settlement::open(0, Rule::ByClaim)), 40);
+    }
+
+    /// Case G of document 01, as document 02 has it since.
+    #[test]
+    fn an_answer_that_comes_again_is_accepted_and_the_other_bit_is_not() {
+        let mut settlement = Settlement::open(2, Rule::ByStation).expect("2 and rule 1 are fine");
+        settlement.claim(0, 7).expect("idle");
+        settlement.deliver(0, 0).expect("claimed");
+        settlement.step(0).expect("its claim is held");
+        settlement.step(0).expect("it casts 0");
+        assert_eq!([number(settlement.answer(0, 1)), number(settlement.answer(0, 2))], [12, 10]);
+        settlement.answer(0, 0).expect("0 was cast");
+        settlement.lose(0).expect("live");
+        let before = settlement.clone();
+        assert_eq!([settlement.answer(0, 0), settlement.answer(0, 0)], [Ok(()); 2]);
+        assert_eq!([number(settlement.answer(0, 1)), number(settlement.answer(0, 2))], [11, 10]);
+        assert_eq!(settlement, before);
+    }
+
+    /// Ballot 0's entry begins at 643: 0 was cast, 1 was cast, answered, the answer.
+    #[test]
+    fn a_made_up_answer_that_nobody_cast_is_an_answer() {
+        let mut image = Settlement::open(2, Rule::ByStation).expect("2 and rule 1 are fine").to_bytes();
+        for (marks, [zero, one]) in [([0, 0, 1, 0], [0, 11]), ([0, 1, 1, 0], [0, 11]), ([1, 0, 1, 1], [11, 0])] {
+            image[643..647].copy_from_slice(&marks);
+            let numbers = [0, 1].map(|a| bytes::answer(&mut image, 0, a));
+            assert_eq!((numbers, &image[643..647]), ([zero, one], &marks[..]));
+        }
     }
 
     #[test]

@@ -1,6 +1,6 @@
 //! Events on a settlement beside the same events as a log: the same numbers, and the same bytes after each.
 
-use dagmuize::{Field, Log, Refusal, Rule, Settlement};
+use dagmuize::{Field, Fields, Log, Refusal, Rule, Settlement};
 
 /// Numbers that look random.
 struct Rng(u64);
@@ -50,27 +50,55 @@ fn compare(settlement: &mut Settlement, log: &mut Log, event: &Field) -> u8 {
     number
 }
 
-/// A list of events from an opening; counts the numbers met.
-fn compare_list(rng: &mut Rng, n: u8, rule: Rule, met: &mut [usize; 256]) {
+/// The answer that a log's ballot has: the bit of its first ANSWER.
+fn answer_in(log: &Log, ballot: u8) -> Option<u8> {
+    Fields::of(log.as_bytes()).find_map(|(_, field)| match field {
+        Ok(Field::Answer { b, a }) if b == ballot => Some(a),
+        _ => None,
+    })
+}
+
+/// Whether a ballot has its answer. Then that is accepted again, the other bit is 11, and nothing changes.
+fn announce(settlement: &mut Settlement, log: &mut Log, ballot: u8) -> bool {
+    let Some(answer) = answer_in(log, ballot) else {
+        return false;
+    };
+    let before = settlement.clone();
+    for (a, number) in [(answer, 0), (1 - answer, 11), (answer, 0), (2, 10)] {
+        assert_eq!(compare(settlement, log, &Field::Answer { b: ballot, a }), number, "answer {ballot} {a}");
+        assert_eq!(*settlement, before, "answer {ballot} {a}");
+    }
+    true
+}
+
+/// A list of events from an opening; counts the numbers met, and the ballots that were answered again.
+fn compare_list(rng: &mut Rng, n: u8, rule: Rule, met: &mut [usize; 256]) -> usize {
     let mut settlement = Settlement::open(n, rule).expect("1 to 4 stations");
     let mut log = Log::new();
     log.put(&Field::Open { n, rule: rule.number() }).expect("an opening is no note");
+    let mut again = 0;
     for _ in 0..120 {
         let event = rng.event(n);
         met[usize::from(compare(&mut settlement, &mut log, &event))] += 1;
+        if rng.below(3) == 0 {
+            again += usize::from(announce(&mut settlement, &mut log, rng.below(4)));
+        }
     }
     assert_eq!(Settlement::from_bytes(&settlement.to_bytes()), Ok(settlement));
+    again
 }
 
 #[test]
 fn an_event_does_on_a_settlement_what_it_does_in_a_log() {
     let mut rng = Rng(20_261_116);
     let mut met = [0; 256];
+    let mut again = 0;
     for _ in 0..200 {
         let n = 1 + rng.below(4);
-        compare_list(&mut rng, n, Rule::ByStation, &mut met);
-        compare_list(&mut rng, n, Rule::ByClaim, &mut met);
+        again += compare_list(&mut rng, n, Rule::ByStation, &mut met);
+        again += compare_list(&mut rng, n, Rule::ByClaim, &mut met);
     }
+    assert!(again > 300, "answers come again often: {again}");
     assert!(met[..=12].iter().all(|times| *times > 50), "0 to 12 are met often: {:?}", &met[..=12]);
     assert!(met[13..].iter().all(|times| *times == 0), "no other number is met");
 }

@@ -106,6 +106,19 @@ fn the_field_that_stops_has_the_number_and_its_words() {
 }
 
 #[test]
+fn an_answer_that_comes_again_stops_nothing_and_the_other_bit_does() {
+    let log = made(b"open 2 1\nclaim 0 7\ndeliver 0 0\nstep 0\nstep 0\nanswer 0 0\nanswer 0 0\nanswer 0 1\nstep 0\n");
+    let text = String::from_utf8(shown(&log.out).out).expect("it is ASCII");
+    let lines = [
+        "answer 0 0              # 26",
+        "answer 0 0              # 31",
+        "answer 0 1              # 36: stops with 11: the ballot has the other bit as its answer",
+        "step 0                  # 41",
+    ];
+    assert!(text.ends_with(&lines.map(|line| format!("{line}\n")).concat()), "{text}");
+}
+
+#[test]
 fn a_bad_line_gets_its_number_and_no_byte_is_made() {
     let wrong = |text: &str| {
         let answer = made(text.as_bytes());
