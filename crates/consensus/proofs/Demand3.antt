@@ -2,7 +2,7 @@
 -- whether it was supplied. Assumes nothing.
 use Prim.Native.Nat.{ℕ, suc}
 use mathlib.Core.Path.{_≡_, refl, sym, subst, _∙_, ap}
-use mathlib.Core.Logic.{inl, inr, _↔_}
+use mathlib.Core.Logic.{inl, inr, ⊎-elim, _↔_}
 use mathlib.Core.Bool.{Bool, true, false, not, _&&_}
 use mathlib.Core.Option.{Option, none, some, Option·none-ne-some, Option·some-injective}
 use native.Mathlib.Omega.{arith}
@@ -11,14 +11,14 @@ use Rattle.bits.specs.Words.{with-bit, low-agree}
 use Rattle.bits.specs.Log.{ceil-log2, least-from}
 use Rattle.consensus.specs.Events.{Event, History, start, _▷_, Rule, rule-1, rule-2, Opening, rounds}
 use Rattle.consensus.specs.State.{State, held, answered, update}
-use Rattle.consensus.specs.Rules.{stage-number, number, step-from, effect, next, after}
+use Rattle.consensus.specs.Rules.{is-bit, as-bit, stage-number, number, step-from, effect, next, after}
 use Rattle.basics.specs.Below.{any-below}
 use Rattle.consensus.specs.Terms.{takes, waits-on, longest, Supplied, Takes-supplied, Supplied-steps}
 use Rattle.consensus.specs.Told.{Supplied-in, Told}
 use Rattle.consensus.specs.Demand3.{most-steps, Demand3, No-42}
-use Rattle.consensus.specs.Examples.{opening, lone-by-station, lone-of-three, lone-by-claim, lone-two-bits, beside-a-lost-claim, lacking-a-held-claim, Meets-bound, Bounds-met}
-use Rattle.basics.proofs.Bools.{by-bool, no-clash, and-true, not-false→true}
-use Rattle.basics.proofs.Below.{any-found, any-none}
+use Rattle.consensus.specs.Examples.{opening, lone-by-station, lone-of-three, lone-by-claim, lone-two-bits, with-repeats, beside-a-lost-claim, lacking-a-held-claim, Meets-bound, Bounds-met}
+use Rattle.basics.proofs.Bools.{by-bool, no-clash, and-true, not-false→true, beq-same}
+use Rattle.basics.proofs.Below.{any-found, any-none, any-true}
 use Rattle.consensus.proofs.Reached.{reached}
 use Rattle.consensus.proofs.Beginnings.{beginning-followed, followed-beginning, fit-claims, claims-fit}
 use Rattle.consensus.proofs.Listed.{voted-told, took-told}
@@ -136,6 +136,9 @@ told = record {
     is-answered = λ b. answered-shown o b h;
     first = first-answer-shown o h;
     repeats = λ b a. repeats-shown o b a h;
+    sent = λ b a x.
+        let v = reached o h .answers b _ (repeats-shown o b a h .0 x .1) in
+        any-true (o .count) (λ s. is-bit (as-bit a) (after o h .station s .cast b)) (v .0) (v .1) (ap (is-bit (as-bit a)) (v .2) ∙ beq-same (as-bit a));
     waits = λ p. waits-shown o p h;
     voted = λ p. voted-told o p h;
     took = λ p. took-told o p h;
@@ -143,6 +146,8 @@ told = record {
     none-longer = λ s v a. put-longest o s v h a;
     as-long = longest-put o h;
     is-supplied = λ p. supplied-shown o p h;
+    counts-steps = λ p m e t.
+        (⊎-elim (λ x. no-clash (takes o p h e) (x .0 .0) t) (λ x. x .1), λ x. inr (λ s. no-clash (takes o p h e) (s .0) t, x));
   };
   beginnings = λ g h. (beginning-followed g h, λ x. followed-beginning g h (x .0) (x .1));
   claims = λ h. (fit-claims h, claims-fit h);
@@ -188,8 +193,9 @@ module _ (n : ℕ) (r : Rule) (h : History) where
   }
 
 counts : Counts 2 rule-1 lone-by-station 5 × Counts 3 rule-1 lone-of-three 11 × Counts 1 rule-2 lone-by-claim 6 × Counts 3 rule-2 lone-two-bits 15
+    × Counts 2 rule-1 with-repeats 5
 unfolding counted one-more takes-told supplied-told own-told all-told answers-told lacks by-bool waits-on longest bit-length bit binary-digits digits-in with-bit low-agree ceil-log2 least-from update any-below stage-number number step-from effect next after
-counts = ((refl, refl), (refl, refl), (refl, refl), (refl, refl))
+counts = ((refl, refl), (refl, refl), (refl, refl), (refl, refl), (refl, refl))
 
 held-or-not : (counted (opening 2 rule-1) beside-a-lost-claim 0 .0 ≡ 5) × (counted (opening 2 rule-1) lacking-a-held-claim 0 .0 ≡ 0)
 unfolding counted one-more takes-told supplied-told own-told all-told answers-told lacks by-bool waits-on bit binary-digits digits-in with-bit low-agree ceil-log2 least-from update any-below stage-number number step-from effect next after
@@ -201,6 +207,7 @@ bounds-met = record {
   by-station-3 = meets 3 rule-1 lone-of-three 11 (counts .1);
   by-claim = meets 1 rule-2 lone-by-claim 6 (counts .2);
   by-claim-3 = meets 3 rule-2 lone-two-bits 15 (counts .3);
+  repeats-between = meets 2 rule-1 with-repeats 5 (counts .4);
   nobody-holds = counted-as 2 rule-1 beside-a-lost-claim 5 (held-or-not .0);
   somebody-holds = counted-as 2 rule-1 lacking-a-held-claim 0 (held-or-not .1);
 }

@@ -84,7 +84,7 @@ pub record Repeats : Type 0 where
   pub same-bit : Repeat (opening 2 rule-1) (answer 0 1) one-took
   pub once-more : Repeat (opening 2 rule-1) (answer 0 1) (one-took ▷ answer 0 1 ▷ lose 0 ▷ lose 1)
   pub by-claim : Repeat (opening 2 rule-2) (answer 1 0) case-D
-  pub first : Repeat (opening 2 rule-1) (answer 0 1) one-voted → ⊥
+  pub first : Repeat (opening 2 rule-1) (answer 0 0) one-voted → ⊥
   pub refused : Repeat (opening 2 rule-1) (answer 0 1) (start ▷ answer 0 1) → ⊥
   pub other-bit : Repeat (opening 2 rule-1) (answer 0 0) one-took → ⊥
   pub other-ballot : Repeat (opening 2 rule-2) (answer 4 1) case-D → ⊥

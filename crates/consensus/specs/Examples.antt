@@ -72,6 +72,11 @@ lone-two-bits =
     ▷ step 0 ▷ answer 0 0 ▷ step 0 ▷ step 0 ▷ step 0 ▷ step 0 ▷ step 0 ▷ answer 1 0 ▷ step 0
     ▷ step 0 ▷ answer 2 1 ▷ step 0 ▷ step 0 ▷ step 0 ▷ step 0 ▷ step 0 ▷ answer 3 1 ▷ step 0
 
+-- the first of them with its answer announced four times
+abbrev pub with-repeats : History
+with-repeats =
+    start ▷ claim 0 7 ▷ deliver 0 0 ▷ step 0 ▷ step 0 ▷ answer 0 0 ▷ answer 0 0 ▷ step 0 ▷ answer 0 0 ▷ step 0 ▷ answer 0 0 ▷ step 0
+
 -- a claim that nobody holds need not be held: station 1 put one in and was lost, and the five steps of station 0 are supplied all the same
 abbrev pub beside-a-lost-claim : History
 beside-a-lost-claim =
@@ -92,6 +97,7 @@ pub record Bounds-met : Type 0 where
   pub by-station-3 : Meets-bound 3 rule-1 lone-of-three 11
   pub by-claim : Meets-bound 1 rule-2 lone-by-claim 6
   pub by-claim-3 : Meets-bound 3 rule-2 lone-two-bits 15
+  pub repeats-between : Meets-bound 2 rule-1 with-repeats 5
   -- what is supplied, and what is not
   pub nobody-holds : Supplied-steps (opening 2 rule-1) 0 5 beside-a-lost-claim
   pub somebody-holds : Supplied-steps (opening 2 rule-1) 0 0 lacking-a-held-claim

@@ -1,9 +1,9 @@
 -- The routine as mathematics: nothing here speaks of a program.
 --     Events      the events and lists of them; openings
 --     State       what the play keeps of each station and each ballot
---     Rules       what each event is refused for, and what it does (document 01)
+--     Rules       what each event is refused for, and what it does (document 01, as 02 changed it)
 --     Frame       what an event does not name stays
---     Terms       the words of demand 3, read off a list of events
+--     Terms       the words of demands 2 and 3, read off a list of events
 --     Told        the words are what the play's state shows
 --     Demand3     demand 3 about the play
 --     Figure      one process of a figure: a line, and an event made of lines
@@ -16,7 +16,7 @@
 --     Examples    lists that tell the four false readings apart, and lists that meet the bounds
 --     Misread     figure 2 with line 10 or 11 read otherwise, run to its end
 --     Rows        numbers and STEPs of the play as literals
---     Edges       the words of demand 3 at their edges, as literals
+--     Edges       the words of demands 2 and 3 at their edges, as literals
 pub mod Events
 pub mod State
 pub mod Rules

@@ -64,6 +64,7 @@ numbers-by r =
     ∷ numbered 4 r four (lose 0) 0 ∷ numbered 4 r four (lose 3) 0 ∷ numbered 4 r four (lose 4) 1 ∷ numbered 4 r four (lose 1) 2
     -- ANSWER: 10, 11, 12; above 1 and answered, above 1 and not cast: 10; the other bit answered, and not cast: 11; the voter lost later: 0
     ∷ numbered 4 r four (answer 0 0) 0 ∷ numbered 4 r four (answer 0 1) 12 ∷ numbered 4 r four (answer 1 0) 12 ∷ numbered 4 r four (answer 0 2) 10
+    ∷ numbered 4 r four (answer 1 2) 10
     ∷ numbered 4 r (four ▷ answer 0 0) (answer 0 2) 10 ∷ numbered 4 r (four ▷ answer 0 0) (answer 0 1) 11 ∷ numbered 4 r (four ▷ lose 0) (answer 0 0) 0
     -- a repeat: 0, a second time, after a refused ANSWER of the other bit, and after its only voter was lost too; another ballot's answer is no repeat
     ∷ numbered 4 r (four ▷ answer 0 0) (answer 0 0) 0 ∷ numbered 4 r (four ▷ answer 0 0 ▷ answer 0 0) (answer 0 0) 0

@@ -1,4 +1,4 @@
--- The rules of document 01 on the play's state: the number of each event, the tests in the order written
+-- The rules of document 01, as document 02 changed them, on the play's state: the number of each event, the tests in the order written
 -- ("Operations and what they turn away"), and what an accepted event does ("What one STEP does"). Assumes nothing.
 use Prim.Native.Nat.{ℕ, suc, _+_, _*_, _%_}
 use mathlib.Core.Bool.{Bool, true, false, cond, not, _&&_, _||_, Bool·beq}
@@ -57,7 +57,7 @@ last-refusal o (some true) b = 0
 last-refusal o (some false) b = refuse (eqb (suc b) (ballots o)) 42 0
 
 -- What an ANSWER of the bit a is refused for, beside the answer that its ballot has, and whether a was cast there (document 02, A.1): "the answer
--- a ballot already has is accepted again", "number 11 is for the other bit only", "12 is met only where no answer stands"
+-- a ballot already has is accepted again", "Number 11 is for the other bit only", "12 is met only where no answer stands"
 abbrev pub answer-number : Option Bool → (a was-cast : Bool) → ℕ
 answer-number none a c = refuse (not c) 12 0
 answer-number (some x) a c = refuse (not (Bool·beq x a)) 11 0

@@ -2,14 +2,14 @@
 use Prim.Native.Nat.{ℕ, _≤_, _<_}
 use mathlib.Core.Path.{_≡_}
 use mathlib.Core.Logic.{_↔_, _⊎_}
-use mathlib.Core.Bool.{Bool, true}
+use mathlib.Core.Bool.{Bool, true, false}
 use mathlib.Core.Option.{Option, none, some}
 use mathlib.Core.List.{List, [], _∷_}
 use Rattle.bits.specs.Digits.{bit-length}
-use Rattle.consensus.specs.Events.{claim, answer, History, start, _▷_, Opening}
+use Rattle.consensus.specs.Events.{Event, claim, answer, History, start, _▷_, Opening}
 use Rattle.consensus.specs.State.{Stage, idle, waiting, voting, awaiting, seeking, finish-voting, finish-awaiting, decided, State, claimed, claim-of, held, answered}
-use Rattle.consensus.specs.Rules.{bit-ballot, finish-ballot, as-bit, after}
-use Rattle.consensus.specs.Terms.{Beginning, Claims-fit, decision, Put-in, Holds, Lost, Answered, Repeat, first-answer, voted-in, waits-on, answers-taken, Decided, longest, Supplied}
+use Rattle.consensus.specs.Rules.{bit-ballot, finish-ballot, was-cast, as-bit, after}
+use Rattle.consensus.specs.Terms.{Beginning, Claims-fit, decision, Put-in, Holds, Lost, Answered, Repeat, takes, first-answer, voted-in, waits-on, answers-taken, Decided, longest, Supplied, Supplied-steps}
 
 -- the ballot that a station at this stage waits on
 abbrev pub awaited : Opening → Stage → Option ℕ
@@ -48,6 +48,8 @@ module _ (o : Opening) (h : History) where
     pub first : (b : ℕ) → first-answer o h b ≡ after o h .answer-of b
     -- a repeat is an ANSWER of the bit that stands
     pub repeats : (b a : ℕ) → Repeat o (answer b a) h ↔ ((a ≤ 1) × (after o h .answer-of b ≡ some (as-bit a)))
+    -- which some station cast, though a repeat does not ask
+    pub sent : (b a : ℕ) → Repeat o (answer b a) h → was-cast o (after o h) b (as-bit a) ≡ true
     pub waits : (p : ℕ) → waits-on o p h ≡ awaited o (after o h .station p .stage)
     -- p voted in the ballots where its bit stands (`answered`: some bit stands there), and took the answer of each but the one it waits on
     pub voted : (p b : ℕ) → Listed b (voted-in o p h) ↔ (answered (after o h .station p .cast b) ≡ true)
@@ -58,6 +60,8 @@ module _ (o : Opening) (h : History) where
     pub none-longer : (s v : ℕ) → Put-in o s v h → bit-length v ≤ longest o h
     pub as-long : (longest o h ≡ 0) ⊎ ((s : ℕ) × (v : ℕ) × Put-in o s v h × (bit-length v ≡ longest o h))
     pub is-supplied : (p : ℕ) → Supplied o p h ↔ Supplied-in o (after o h) p
+    -- what is no step of p, a repeat among it, changes no count of p's steps
+    pub counts-steps : (p m : ℕ) (e : Event) → takes o p h e ≡ false → Supplied-steps o p m (h ▷ e) ↔ Supplied-steps o p m h
 
 -- every opening, every list
 pub record Told : Type 0 where

@@ -58,7 +58,7 @@ lose-tests v s =
     ∷ when (v .own .lost) 2
     ∷ []
 
--- document 02, A.1: "the answer a ballot already has is accepted again", "number 11 is for the other bit only", "12 is met only where no answer stands"
+-- document 02, A.1: "the answer a ballot already has is accepted again", "Number 11 is for the other bit only", "12 is met only where no answer stands"
 abbrev pub answer-tests : View → ℕ → ℕ → List Test
 answer-tests v b a =
     when (not (ltb b (ballots (v .count) (v .rule)))) 9

@@ -32,7 +32,7 @@ pub record Demand3-lent (o : Opening) (h : History) : Type 0 where
       → (e : Event) (k : ℕ) (r′ : Settlement) → Leaves r e k r′ → k ≡ number o (after o g) e
 
 pub record Lent-lists : Type 0 where
-  -- refusal leaves the settlement equal, on every record; acceptance advances it
+  -- refusal leaves the settlement equal, on every record; acceptance leaves what the event makes of it
   pub refused : (r r′ : Settlement) (e : Event) (k : ℕ) → Leaves r e k r′ → (k ≡ 0 → ⊥) → r′ ≡ r
   pub accepted : (r r′ : Settlement) (e : Event) (k : ℕ) → Leaves r e k r′ → k ≡ 0 → r′ ≡ effect r e
   -- a list leaves what the meanings by value leave, and some settlement stands there after every list

@@ -54,4 +54,9 @@ events-shown = record {
   answer-number = refl;
   vote-left = refl;
   answer-left = refl;
+  again-number = refl;
+  again-left = refl;
+  uncast-again = refl;
+  uncast-left = refl;
+  other-number = refl;
 }

@@ -2,14 +2,14 @@
 -- the event on the record. Assumes nothing.
 use Prim.Native.Nat.{ℕ}
 use mathlib.Core.Path.{_≡_, refl, sym, subst, ap, _∙_}
-use mathlib.Core.Bool.{Bool, true, false, cond}
+use mathlib.Core.Bool.{true, cond}
 use mathlib.Core.Logic.{⊎-elim}
 use mathlib.Core.List.{List}
 use lib.Dec.{eqb}
 use borrow.Author.Tests.{eqb-false}
 use Rattle.basics.proofs.Bools.{by-bool}
 use Rattle.consensus.specs.Events.{Event, History, start, _▷_, Opening, Openable}
-use Rattle.consensus.specs.Rules.{number, after}
+use Rattle.consensus.specs.Rules.{number}
 use Rattle.consensus.specs.Terms.{Beginning, Claims-fit}
 use Rattle.settlement.specs.declared.record.Settlement.{Settlement}
 use Rattle.settlement.specs.declared.record.Standing.{Standing}
@@ -19,7 +19,7 @@ use Rattle.settlement.specs.Link.{record-after}
 use Rattle.settlement.specs.Demands.{Demand3-of-records}
 use Rattle.settlement.proofs.Demand1.{demand1}
 use Rattle.settlement.proofs.Link.Demands.{demands}
-use Rattle.image.specs.Image.{image-of, record-in, no-image, Record-fits}
+use Rattle.image.specs.Image.{image-of, no-image, Record-fits}
 use Rattle.image.proofs.Image.{an-image, record-again}
 use Rattle.on_image.specs.Events.{image-number, image-after}
 use Rattle.on_image.specs.Look.{looked-on}
@@ -93,4 +93,4 @@ module _ (o : Opening) (a : Openable o) (h : History) (f : Claims-fit h) where
   }
 
 pub image-lists : Image-lists
-image-lists = record { holds = holds; stands = stands }
+image-lists = record { holds = holds; numbers = same-number; leaves = same-image; stands = stands }

@@ -7,11 +7,12 @@ use mathlib.Core.List.{List}
 use Rattle.consensus.specs.Events.{Event, History, start, _▷_, Opening, Openable}
 use Rattle.consensus.specs.Rules.{number, after}
 use Rattle.consensus.specs.Terms.{Beginning, Claims-fit}
-use Rattle.settlement.specs.Events.{opened}
+use Rattle.settlement.specs.declared.record.Settlement.{Settlement}
+use Rattle.settlement.specs.Events.{opened, played}
 use Rattle.settlement.specs.Look.{looked}
 use Rattle.settlement.specs.Link.{rule-number, record-after}
 use Rattle.settlement.specs.Demands.{Demand3-of-records}
-use Rattle.image.specs.Image.{image-of}
+use Rattle.image.specs.Image.{image-of, Record-fits}
 use Rattle.on_image.specs.Events.{image-number, image-after}
 use Rattle.on_image.specs.Look.{looked-on}
 
@@ -32,5 +33,8 @@ pub record Demand3-on-image (o : Opening) (h : History) : Type 0 where
 
 pub record Image-lists : Type 0 where
   pub holds : (o : Opening) → Openable o → (h : History) → Claims-fit h → Demand3-on-image o h
+  -- on the image of any record whose numbers fit, made-up ones included: an event has the record's number, and leaves the image of the record after it
+  pub numbers : (r : Settlement) → Record-fits r → (e : Event) → image-number (image-of r) e ≡ played r e .number
+  pub leaves : (r : Settlement) → Record-fits r → (e : Event) → image-after (image-of r) e ≡ image-of (played r e .settlement)
   -- some bytes stand there after every list
   pub stands : (o : Opening) → Openable o → (h : History) → Claims-fit h → Stands o h (image-of (record-after o h))

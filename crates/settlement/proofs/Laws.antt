@@ -30,7 +30,7 @@ use Rattle.settlement.specs.Laws.{Station-outside, cursor, voting, await
 use Rattle.settlement.specs.Laws.{Outside, many-stations, no-rule, some-station, Takes-last-no, starting, nothing-shown, Laws}
 use Rattle.settlement.proofs.Demand1.{demand1}
 use Rattle.settlement.proofs.Stays.{event-stays}
-use Rattle.settlement.proofs.Again.{stands-again, other-refused}
+use Rattle.settlement.proofs.Answers.{none-9, above-10, other-11, nobody-12, first-0, stands-again}
 use Rattle.settlement.proofs.Places.{played-faulty}
 use Rattle.settlement.proofs.Range.{few-stations, some-rule, cursor-below, round-by-station, no-finish-by-station, round-by-claim}
 
@@ -245,7 +245,11 @@ laws =
       open-41 = refused-41;
       open-0 = accepted;
       stays = event-stays;
-      again = λ r o b x. stands-again r (passing r o) b x;
-      other-11 = λ r o b x. other-refused r (passing r o) b x;
+      none-9 = λ r o. none-9 r (passing r o);
+      above-10 = λ r b a i. above-10 r (passing r (i .0)) b (i .1) a;
+      nobody-12 = λ r b x i. nobody-12 r (passing r (i .0)) b (i .1) x;
+      first-0 = λ r b x i. first-0 r (passing r (i .0)) b (i .1) x;
+      again = λ r b x i. stands-again r (passing r (i .0)) b (i .1) x;
+      other-11 = λ r b x i. other-11 r (passing r (i .0)) b (i .1) x;
       only-12 = λ r b a h. first-12 r b a (demand1 .refused r (answer b a) 12 (λ z. omega arith) .0 h);
     }

@@ -5,8 +5,8 @@
 --     Votes     the votes that LOOK shows fit a byte
 --     Demand1   demand 1
 --     Stays     what an event leaves as it was
---     Again     an ANSWER of the bit that stands changes nothing
---     Laws      what document 01 says of every record
+--     Answers   ANSWER on a record, test by test; the bit that stands changes nothing
+--     Laws      what the documents say of every record
 --     Edges     the edges of the record test, computed
 --     Link      the record and the play go side by side, so demands 2 and 3 hold of the operations
 pub mod Refusals
@@ -16,6 +16,6 @@ pub mod Votes
 pub mod Demand1
 pub mod Link
 pub mod Stays
-pub mod Again
+pub mod Answers
 pub mod Laws
 pub mod Edges

@@ -1,4 +1,4 @@
--- Laws of OPEN, the events and LOOK, each a sentence of document 01 that speaks of every record, made-up ones included. They are said in the
+-- Laws of OPEN, the events and LOOK, each a sentence of document 01 or 02 that speaks of every record, made-up ones included. They are said in the
 -- document's words and literal numbers, so that a definition that changes together with its code is noticed here. Assumes nothing.
 use Prim.Native.Nat.{ℕ, _≤_, _<_, _+_, _*_}
 use mathlib.Core.Path.{_≡_}
@@ -10,10 +10,10 @@ use Rattle.consensus.specs.Events.{Event, claim, deliver, step, lose, answer}
 use Rattle.entry.specs.declared.entry.Stage.the-variants.{Idle, Waiting, Voting, Awaiting, Seeking, FinishVoting, FinishAwaiting}
 use Rattle.entry.specs.declared.entry.Station.{Station}
 use Rattle.entry.specs.declared.entry.Ballot.{Ballot}
-use Rattle.entry.specs.Entries.{ballots}
+use Rattle.entry.specs.Entries.{ballots, was-cast, answering}
 use Rattle.settlement.specs.declared.record.Settlement.{Settlement}
 use Rattle.settlement.specs.declared.record.Standing.{Standing}
-use Rattle.settlement.specs.Record.{entry, ballot}
+use Rattle.settlement.specs.Record.{entry, ballot, with-ballot}
 use Rattle.settlement.specs.Fault.{fault}
 use Rattle.settlement.specs.Events.{opened, played}
 use Rattle.settlement.specs.Look.{looked}
@@ -81,7 +81,11 @@ pub record Stays (r : Settlement) (e : Event) (r′ : Settlement) : Type 0 where
   pub stations : (i : ℕ) → (May-change e i → ⊥) → (d : Station) → getD (r′ .stations) i d ≡ getD (r .stations) i d
   pub ballots : (i : ℕ) → (May-change-ballot r e i → ⊥) → (d : Ballot) → getD (r′ .ballots) i d ≡ getD (r .ballots) i d
 
--- ---- announcements that come twice
+-- ---- ANSWER
+
+-- there is a ballot b in the record, which is not outside its ranges
+abbrev pub Ballot-of : Settlement → ℕ → Type 0
+Ballot-of r b = (Outside r → ⊥) × (b < ballots (r .count) (r .rule))
 
 -- the ballot b has the answer x
 abbrev pub Has-answer : Settlement → ℕ → Bool → Type 0
@@ -123,10 +127,15 @@ pub record Laws : Type 0 where
   pub open-0 : (n rule : ℕ) → 1 ≤ n → n ≤ 32 → (rule ≡ 1) ⊎ (rule ≡ 2) → opened n rule ≡ record { number = 0; settlement = starting n rule }
   -- an event changes no entry but its own station's and its ballot's
   pub stays : (r : Settlement) (e : Event) → Stays r e (played r e .settlement)
+  -- "ANSWER b, a. No ballot b: 9. a above 1: 10. .. No station has cast a in b: 12", the bit being x; otherwise x is the answer, and nothing else changes
+  pub none-9 : (r : Settlement) → (Outside r → ⊥) → (b a : ℕ) → ballots (r .count) (r .rule) ≤ b → played r (answer b a) ≡ record { number = 9; settlement = r }
+  pub above-10 : (r : Settlement) (b a : ℕ) → Ballot-of r b → 1 < a → played r (answer b a) ≡ record { number = 10; settlement = r }
+  pub nobody-12 : (r : Settlement) (b : ℕ) (x : Bool) → Ballot-of r b → ballot r b .answered ≡ false → was-cast (ballot r b) x ≡ false
+      → played r (answer b (cond x 1 0)) ≡ record { number = 12; settlement = r }
+  pub first-0 : (r : Settlement) (b : ℕ) (x : Bool) → Ballot-of r b → ballot r b .answered ≡ false → was-cast (ballot r b) x ≡ true
+      → played r (answer b (cond x 1 0)) ≡ record { number = 0; settlement = with-ballot b (answering x (ballot r b)) r }
   -- "the answer a ballot already has is accepted again and changes nothing. Number 11 is for the other bit only. .. 12 is met only where no answer
   -- stands" (document 02, A.1): whoever cast what
-  pub again : (r : Settlement) → (Outside r → ⊥) → (b : ℕ) (x : Bool) → b < ballots (r .count) (r .rule) → Has-answer r b x
-      → played r (answer b (cond x 1 0)) ≡ record { number = 0; settlement = r }
-  pub other-11 : (r : Settlement) → (Outside r → ⊥) → (b : ℕ) (x : Bool) → b < ballots (r .count) (r .rule) → Has-answer r b x
-      → played r (answer b (cond x 0 1)) ≡ record { number = 11; settlement = r }
+  pub again : (r : Settlement) (b : ℕ) (x : Bool) → Ballot-of r b → Has-answer r b x → played r (answer b (cond x 1 0)) ≡ record { number = 0; settlement = r }
+  pub other-11 : (r : Settlement) (b : ℕ) (x : Bool) → Ballot-of r b → Has-answer r b x → played r (answer b (cond x 0 1)) ≡ record { number = 11; settlement = r }
   pub only-12 : (r : Settlement) (b a : ℕ) → played r (answer b a) .number ≡ 12 → ballot r b .answered ≡ false

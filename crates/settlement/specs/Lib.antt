@@ -6,7 +6,7 @@
 --     Demand1   demand 1, as one law over every event and every record
 --     Link      the records that a list of events leads to, beside the play
 --     Demands   demands 2 and 3 about the operations, over whole lists
---     Laws      what document 01 says of every record, in its words and numbers
+--     Laws      what the documents say of every record, in their words and numbers
 --     Edges     the edges of the record test, as one list
 pub mod Record
 pub mod Fault

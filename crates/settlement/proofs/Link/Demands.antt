@@ -50,7 +50,7 @@ use Rattle.settlement.proofs.Link.Faultless.{rule-known, faultless}
 use Rattle.basics.proofs.Below.{none-below}
 use Rattle.settlement.proofs.Link.Numbers.{bit-ballot-same, ballot-answered, number-same}
 use Rattle.settlement.proofs.Link.Effects.{effect-linked}
-use Rattle.settlement.proofs.Again.{again}
+use Rattle.settlement.proofs.Answers.{again}
 
 -- ---- OPEN
 
