@@ -56,7 +56,5 @@ events-shown = record {
   answer-left = refl;
   again-number = refl;
   again-left = refl;
-  uncast-again = refl;
-  uncast-left = refl;
   other-number = refl;
 }

@@ -32,9 +32,9 @@ voting = set (set two 23 2) 25 1
 abbrev pub voted : List ℕ
 voted = set (set voting 23 3) 644 1
 
--- and 1 is answered
-abbrev pub answered : List ℕ
-answered = set (set voted 645 1) 646 1
+-- the answer 1 stands in ballot 0, and nobody cast it
+abbrev pub uncast : List ℕ
+uncast = set (set two 645 1) 646 1
 
 pub record Looks-shown : Type 0 where
   -- number, decided, votes, 0, and the claim high byte first; the word is those bytes in one number
@@ -75,10 +75,8 @@ pub record Events-shown : Type 0 where
   pub answer-number : image-number two (answer 0 1) ≡ 12
   -- a vote: the stage, and the mark of the bit; its ANSWER: two marks
   pub vote-left : image-after voting (step 1) ≡ voted
-  pub answer-left : image-after voted (answer 0 1) ≡ answered
-  -- the bit that stands again: every byte as it was, though nobody cast it; the other bit: 11
-  pub again-number : image-number answered (answer 0 1) ≡ 0
-  pub again-left : image-after answered (answer 0 1) ≡ answered
-  pub uncast-again : image-number (set answered 644 0) (answer 0 1) ≡ 0
-  pub uncast-left : image-after (set answered 644 0) (answer 0 1) ≡ set answered 644 0
-  pub other-number : image-number answered (answer 0 0) ≡ 11
+  pub answer-left : image-after voted (answer 0 1) ≡ set (set voted 645 1) 646 1
+  -- the bit that stands again, though nobody cast it: every byte as it was; the other bit: 11
+  pub again-number : image-number uncast (answer 0 1) ≡ 0
+  pub again-left : image-after uncast (answer 0 1) ≡ uncast
+  pub other-number : image-number uncast (answer 0 0) ≡ 11
