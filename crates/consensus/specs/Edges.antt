@@ -79,7 +79,8 @@ pub record Sameness : Type 0 where
   pub other-ballots : Same (opening 2 rule-1) one-voted 0 1 7 7 → ⊥
   pub other-answers : Same (opening 2 rule-1) one-took 0 1 7 7 → ⊥
 
--- what a repeat is, and what it is not: before the first ANSWER, after a refused one, of the other bit, of another ballot, of a bit above 1; no other event is one
+-- what a repeat is, and what it is not: before the first ANSWER, after a refused one, of the other bit, of another ballot, of a bit above 1; and no other
+-- event is one
 pub record Repeats : Type 0 where
   pub same-bit : Repeat (opening 2 rule-1) (answer 0 1) one-took
   pub once-more : Repeat (opening 2 rule-1) (answer 0 1) (one-took ▷ answer 0 1 ▷ lose 0 ▷ lose 1)

@@ -83,9 +83,9 @@ pub record Stays (r : Settlement) (e : Event) (r′ : Settlement) : Type 0 where
 
 -- ---- ANSWER
 
--- there is a ballot b in the record, which is not outside its ranges
-abbrev pub Ballot-of : Settlement → ℕ → Type 0
-Ballot-of r b = (Outside r → ⊥) × (b < ballots (r .count) (r .rule))
+-- the record is not outside its ranges, and has a ballot b
+abbrev pub Has-ballot : Settlement → ℕ → Type 0
+Has-ballot r b = (Outside r → ⊥) × (b < ballots (r .count) (r .rule))
 
 -- the ballot b has the answer x
 abbrev pub Has-answer : Settlement → ℕ → Bool → Type 0
@@ -129,13 +129,13 @@ pub record Laws : Type 0 where
   pub stays : (r : Settlement) (e : Event) → Stays r e (played r e .settlement)
   -- "ANSWER b, a. No ballot b: 9. a above 1: 10. .. No station has cast a in b: 12", the bit being x; otherwise x is the answer, and nothing else changes
   pub none-9 : (r : Settlement) → (Outside r → ⊥) → (b a : ℕ) → ballots (r .count) (r .rule) ≤ b → played r (answer b a) ≡ record { number = 9; settlement = r }
-  pub above-10 : (r : Settlement) (b a : ℕ) → Ballot-of r b → 1 < a → played r (answer b a) ≡ record { number = 10; settlement = r }
-  pub nobody-12 : (r : Settlement) (b : ℕ) (x : Bool) → Ballot-of r b → ballot r b .answered ≡ false → was-cast (ballot r b) x ≡ false
+  pub above-10 : (r : Settlement) (b a : ℕ) → Has-ballot r b → 1 < a → played r (answer b a) ≡ record { number = 10; settlement = r }
+  pub nobody-12 : (r : Settlement) (b : ℕ) (x : Bool) → Has-ballot r b → ballot r b .answered ≡ false → was-cast (ballot r b) x ≡ false
       → played r (answer b (cond x 1 0)) ≡ record { number = 12; settlement = r }
-  pub first-0 : (r : Settlement) (b : ℕ) (x : Bool) → Ballot-of r b → ballot r b .answered ≡ false → was-cast (ballot r b) x ≡ true
+  pub first-0 : (r : Settlement) (b : ℕ) (x : Bool) → Has-ballot r b → ballot r b .answered ≡ false → was-cast (ballot r b) x ≡ true
       → played r (answer b (cond x 1 0)) ≡ record { number = 0; settlement = with-ballot b (answering x (ballot r b)) r }
   -- "the answer a ballot already has is accepted again and changes nothing. Number 11 is for the other bit only. .. 12 is met only where no answer
   -- stands" (document 02, A.1): whoever cast what
-  pub again : (r : Settlement) (b : ℕ) (x : Bool) → Ballot-of r b → Has-answer r b x → played r (answer b (cond x 1 0)) ≡ record { number = 0; settlement = r }
-  pub other-11 : (r : Settlement) (b : ℕ) (x : Bool) → Ballot-of r b → Has-answer r b x → played r (answer b (cond x 0 1)) ≡ record { number = 11; settlement = r }
+  pub again : (r : Settlement) (b : ℕ) (x : Bool) → Has-ballot r b → Has-answer r b x → played r (answer b (cond x 1 0)) ≡ record { number = 0; settlement = r }
+  pub other-11 : (r : Settlement) (b : ℕ) (x : Bool) → Has-ballot r b → Has-answer r b x → played r (answer b (cond x 0 1)) ≡ record { number = 11; settlement = r }
   pub only-12 : (r : Settlement) (b a : ℕ) → played r (answer b a) .number ≡ 12 → ballot r b .answered ≡ false
