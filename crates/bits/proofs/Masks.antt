@@ -1,10 +1,19 @@
 -- A mask is a set of stations: inserting s makes s a member and leaves every other station as it was. It is a word with one bit set.
--- The laws of a count of members belong here too. Assumes nothing.
-use Prim.Native.Nat.{ℕ, _≤_, _<_}
-use mathlib.Core.Path.{_≡_}
-use mathlib.Core.Bool.{true, false}
-use Rattle.bits.specs.Words.{mask-bits, member, insert, Mask-laws}
-use Rattle.bits.proofs.Digits.{bit-zero}
+-- How many are in it is the count of ones of the word, digit by digit from the lowest. Assumes nothing.
+use Prim.Native.Nat.{ℕ, zero, suc, _+_, _/_, _%_, _^_, _≤_, _<_}
+use mathlib.Core.Path.{_≡_, refl, sym, ap, ap₂, _∙_, subst}
+use mathlib.Core.Bool.{Bool, true, false, cond}
+use native.Mathlib.Omega.{arith}
+use lib.Count.{ones, ones-step}
+use lib.Arith.{lt-one}
+use lib.Dec.{eqb, ltb}
+use borrow.Author.Tests.{eqb-true, eqb-false, ltb-true, ltb-false}
+use Rattle.basics.specs.Below.{count-below}
+use Rattle.basics.proofs.Bools.{by-bool}
+use Rattle.basics.proofs.Below.{count-same, count-past, count-first, count-more}
+use Rattle.bits.specs.Digits.{value, bit}
+use Rattle.bits.specs.Words.{mask-bits, member, insert, size, Mask-laws, Ones-rule}
+use Rattle.bits.proofs.Digits.{bit-zero, bit-low, bit-step, bit-ext, half-lt, lowest-value}
 use Rattle.bits.proofs.Words.{word-outside, word-same, word-other}
 
 pub member-none : (s : ℕ) → member s 0 ≡ false
@@ -23,5 +32,59 @@ pub member-past : (s mask : ℕ) → mask-bits ≤ s → insert s mask ≡ mask
 unfolding insert
 member-past s mask h = word-outside mask-bits s true mask h
 
+pub empty-only : (mask : ℕ) → ((s : ℕ) → member s mask ≡ false) → mask ≡ 0
+unfolding member
+empty-only mask none = bit-ext mask 0 (λ k. none k ∙ sym (bit-zero k))
+
+-- a station that is in it, put in again
+pub insert-again : (s mask : ℕ) → member s mask ≡ true → insert s mask ≡ mask
+unfolding member
+insert-again s mask e =
+    bit-ext (insert s mask) mask (λ k.
+    by-bool (eqb k s)
+    (λ q.
+    let here = eqb-true k s q in
+    subst (λ (i : ℕ). bit i (insert s mask) ≡ bit i mask) (sym here)
+    (by-bool (ltb s mask-bits)
+    (λ l. member-same s mask (ltb-true s mask-bits l) ∙ sym e)
+    (λ l. ap (bit s) (member-past s mask (ltb-false s mask-bits l)))))
+    (λ q. member-other k s mask (eqb-false k s q)))
+
+-- ---- how many
+
+pub ones-rule : Ones-rule
+unfolding count-below ones
+ones-rule zero n h = ap ones (lt-one h)
+ones-rule (suc w) n h =
+    ones-step n
+    ∙ ap (λ (x : ℕ). n % 2 + x) (ones-rule w (n / 2) (half-lt w n h) ∙ count-same w _ _ (λ k l. sym (bit-step k n)))
+    ∙ first (bit 0 n) (ap value (bit-low n) ∙ lowest-value n)
+    ∙ sym (count-first w (λ k. bit k n))
+  where
+    rest : ℕ
+    rest = count-below w (λ k. bit (suc k) n)
+
+    first : (b : Bool) → value b ≡ n % 2 → n % 2 + rest ≡ cond b (suc rest) rest
+    first true e = rw (sym e) (omega arith)
+    first false e = rw (sym e) (omega arith)
+
+pub size-more : (s mask : ℕ) → s < mask-bits → member s mask ≡ false → size (insert s mask) ≡ suc (size mask)
+unfolding size
+size-more s mask l e =
+    count-more mask-bits (λ t. member t mask) (λ t. member t (insert s mask)) s l e (member-same s mask l) (λ t d. member-other t s mask d)
+
+pub size-none : size 0 ≡ 0
+unfolding size count-below
+size-none = count-past 0 mask-bits (λ s. member s 0) (omega arith) (λ s l. member-none s)
+
 pub mask-laws : Mask-laws
-mask-laws = record { empty = member-none; put-in = member-same; others = member-other; past = member-past }
+mask-laws = record {
+  empty = member-none;
+  empty-only = empty-only;
+  put-in = member-same;
+  others = member-other;
+  past = member-past;
+  size-none = size-none;
+  size-more = size-more;
+  size-again = insert-again;
+}

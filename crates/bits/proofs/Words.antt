@@ -11,6 +11,7 @@ use lib.Arith.{le-zero, digits-div, digits-mod, mod-mul}
 use lib.Dec.{eqb, ltb}
 use lib.Pow.{pow-pos}
 use borrow.Author.Tests.{eqb-true, eq-eqb, lt-ltb, le-ltb, ltb-true, ltb-false}
+use Rattle.basics.proofs.Bools.{beq-same, beq-true}
 use Rattle.bits.specs.Digits.{value, bit}
 use Rattle.bits.specs.Words.{with-bit, low-agree, word-with-bit, Bit-laws, Word-laws}
 use Rattle.bits.proofs.Digits.{bit-low, bit-step, bit-ext, bit-above, lt-of-bits, halves, lowest-value}
@@ -96,16 +97,6 @@ word-other w k i b n d = word-either (λ (x : ℕ). bit i x ≡ bit i n) w k b n
 
 -- ---- low bits compared
 
-beq-true : (x y : Bool) → Bool·beq x y ≡ true → x ≡ y
-beq-true true true e = refl
-beq-true true false e = sym e
-beq-true false true e = e
-beq-true false false e = refl
-
-beq-refl : (x : Bool) → Bool·beq x x ≡ true
-beq-refl true = refl
-beq-refl false = refl
-
 pub agree-bits : (k a b : ℕ) → low-agree k a b ≡ true → (i : ℕ) → i ≤ k → bit i a ≡ bit i b
 unfolding low-agree
 agree-bits zero a b e i l = rw (le-zero l) (beq-true (bit 0 a) (bit 0 b) e)
@@ -116,10 +107,10 @@ agree-bits (suc k) a b e i l =
 
 pub bits-agree : (k a b : ℕ) → ((i : ℕ) → i ≤ k → bit i a ≡ bit i b) → low-agree k a b ≡ true
 unfolding low-agree
-bits-agree zero a b same = rw (same 0 zero-le) (beq-refl (bit 0 b))
+bits-agree zero a b same = rw (same 0 zero-le) (beq-same (bit 0 b))
 bits-agree (suc k) a b same =
     and-eq-true-iff (Bool·beq (bit (suc k) a) (bit (suc k) b)) (low-agree k a b) .1
-    (rw (same (suc k) (le-refl (suc k))) (beq-refl (bit (suc k) b)), bits-agree k a b (λ i l. same i (le-step l)))
+    (rw (same (suc k) (le-refl (suc k))) (beq-same (bit (suc k) b)), bits-agree k a b (λ i l. same i (le-step l)))
 
 -- the k low bits are those of the remainder by 2 ^ k
 mod-made : (k n : ℕ) → n % 2 ^ suc k ≡ n / 2 % 2 ^ k * 2 + value (bit 0 n)

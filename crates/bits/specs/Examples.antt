@@ -6,7 +6,7 @@ use mathlib.Core.Bool.{Bool, true, false, _&&_, Bool·beq}
 use mathlib.Core.List.{List, [], _∷_}
 use lib.Dec.{eqb}
 use Rattle.bits.specs.Digits.{bit-length, bit}
-use Rattle.bits.specs.Words.{with-bit, low-agree, claim-bits, word-with-bit, member, insert}
+use Rattle.bits.specs.Words.{with-bit, low-agree, claim-bits, word-with-bit, member, insert, size}
 use Rattle.bits.specs.Log.{ceil-log2}
 
 pub data Example : Type 0 where
@@ -14,11 +14,12 @@ pub data Example : Type 0 where
   has-log : ℕ → ℕ → Example
   has-bit : ℕ → ℕ → Bool → Example
   writing : ℕ → Bool → ℕ → ℕ → Example
-  -- the low k + 1 bits of two numbers agree; a claim with one bit written; a station in a mask; a mask with a station put in
+  -- the low k + 1 bits of two numbers agree; a claim with one bit written; a station in a mask; a mask with a station put in; how many are in one
   agreeing : ℕ → ℕ → ℕ → Bool → Example
   in-claim : ℕ → Bool → ℕ → ℕ → Example
   has-member : ℕ → ℕ → Bool → Example
   inserting : ℕ → ℕ → ℕ → Example
+  counting : ℕ → ℕ → Example
 
 unfoldable pub example-right : Example → Bool
 example-right (has-length n l) = eqb (bit-length n) l
@@ -29,6 +30,7 @@ example-right (agreeing k n m b) = Bool·beq (low-agree k n m) b
 example-right (in-claim k b n m) = eqb (word-with-bit claim-bits k b n) m
 example-right (has-member s mask b) = Bool·beq (member s mask) b
 example-right (inserting s mask m) = eqb (insert s mask) m
+example-right (counting mask k) = eqb (size mask) k
 
 -- every entry of a list passes a test
 abbrev pub every : {A : Type 0} → (A → Bool) → List A → Bool
@@ -45,7 +47,8 @@ written =
     ∷ agreeing 0 3 5 true ∷ agreeing 1 3 5 false ∷ agreeing 2 1 9 true ∷ agreeing 3 1 9 false ∷ agreeing 30 0 2147483648 true ∷ agreeing 31 0 2147483648 false
     ∷ in-claim 31 true 0 2147483648 ∷ in-claim 32 true 0 0 ∷ in-claim 0 false 4294967295 4294967294
     ∷ has-member 0 1 true ∷ has-member 31 2147483648 true ∷ has-member 30 2147483648 false ∷ has-member 32 4294967295 false
-    ∷ inserting 0 2 3 ∷ inserting 31 0 2147483648 ∷ inserting 31 2147483648 2147483648 ∷ inserting 32 5 5 ∷ []
+    ∷ inserting 0 2 3 ∷ inserting 31 0 2147483648 ∷ inserting 31 2147483648 2147483648 ∷ inserting 32 5 5
+    ∷ counting 0 0 ∷ counting 1 1 ∷ counting 10 2 ∷ counting 2147483648 1 ∷ counting 2147483649 2 ∷ counting 4294967295 32 ∷ []
 
 abbrev pub Written-right : Type 0
 Written-right = every example-right written ≡ true

@@ -1,6 +1,6 @@
 -- What the crate `bits` is about, as a reader must believe it.
 --     Digits    the binary digits of a number, its length, its bits
---     Words     one bit changed, low bits compared; words of a fixed width and masks of stations
+--     Words     one bit changed, low bits compared; words of a fixed width, masks of stations and how many are in one
 --     Log       ceil(log2 n)
 --     Examples  the numbers that document 01 writes out
 pub mod Digits

@@ -4,7 +4,9 @@ use Prim.Native.Nat.{ℕ, zero, suc, _+_, _-_, _*_, _/_, _^_, _≤_, _<_}
 use mathlib.Core.Path.{_≡_}
 use mathlib.Core.Logic.{_↔_}
 use mathlib.Core.Bool.{Bool, true, false, _&&_, Bool·beq, cond}
+use lib.Count.{ones}
 use lib.Dec.{ltb}
+use Rattle.basics.specs.Below.{count-below}
 use Rattle.bits.specs.Digits.{value, lowest, bit}
 
 -- n with bit k made b: bit k is taken out, and b put in its place; every other bit stays
@@ -36,6 +38,10 @@ member s mask = bit s mask
 unfoldable pub insert : ℕ → ℕ → ℕ
 insert s mask = word-with-bit mask-bits s true mask
 
+-- how many stations are in the mask (document 02, A.2)
+unfoldable pub size : ℕ → ℕ
+size mask = count-below mask-bits (λ s. member s mask)
+
 -- ---- what reading, writing and comparing mean (paper 000, section 3)
 
 pub record Bit-laws : Type 0 where
@@ -55,9 +61,19 @@ pub record Word-laws : Type 0 where
   pub inside : (w k : ℕ) (b : Bool) (n : ℕ) → k < w → word-with-bit w k b n ≡ with-bit k b n
   pub outside : (w k : ℕ) (b : Bool) (n : ℕ) → w ≤ k → word-with-bit w k b n ≡ n
 
+-- 01, "The forms": counts of ones, for any width w. A number of w bits has as many ones as it has bits below w that are 1.
+abbrev pub Ones-rule : Type 0
+Ones-rule = (w n : ℕ) → n < 2 ^ w → ones n ≡ count-below w (λ k. bit k n)
+
 -- a mask is a set of the stations below 32
 pub record Mask-laws : Type 0 where
   pub empty : (s : ℕ) → member s 0 ≡ false
+  -- only 0 is empty, whatever its width
+  pub empty-only : (mask : ℕ) → ((s : ℕ) → member s mask ≡ false) → mask ≡ 0
   pub put-in : (s mask : ℕ) → s < 32 → member s (insert s mask) ≡ true
   pub others : (s t mask : ℕ) → (s ≡ t → ⊥) → member s (insert t mask) ≡ member s mask
   pub past : (s mask : ℕ) → 32 ≤ s → insert s mask ≡ mask
+  -- a station put in counts once
+  pub size-none : size 0 ≡ 0
+  pub size-more : (s mask : ℕ) → s < 32 → member s mask ≡ false → size (insert s mask) ≡ suc (size mask)
+  pub size-again : (s mask : ℕ) → member s mask ≡ true → insert s mask ≡ mask

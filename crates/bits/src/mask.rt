@@ -1,7 +1,6 @@
 // A set of stations as a mask: station s is in it where bit s is 1.
-// A count of the stations in a mask, once it is asked for, belongs here; its definition in specs/Words.antt, its laws in proofs/Masks.antt.
 ghost use mathlib.Core.Path.{_≡_};
-ghost use Rattle.bits.specs.Words.{member, insert};
+ghost use Rattle.bits.specs.Words.{member, insert, size};
 use crate::word::Word;
 use crate::word::bit_at;
 use crate::word::with_bit;
@@ -23,4 +22,11 @@ pub fn mask_with(mask: u32, s: u8) -> u32
         return mask;
     }
     with_bit(mask as Word, s, true) as u32
+}
+
+// How many stations are in the mask.
+pub fn mask_count(mask: u32) -> u8
+    ensures { λ r. ⌜ r ≡ size mask ⌝ }
+{
+    u32::count_ones(mask) as u8
 }
