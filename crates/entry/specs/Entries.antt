@@ -20,9 +20,9 @@ ballot-entries = 2 * claim-bits
 abbrev pub blank-station : Station
 blank-station = record { stage = Idle; lost = false; held = 0; claim = 0; cursor = 0; round = 0; word = 0; decision = 0 }
 
--- "each ballot entry without a cast bit or an answer"
+-- "each ballot entry without a cast bit or an answer": both sets of voters are empty (document 02, A.2)
 abbrev pub blank-ballot : Ballot
-blank-ballot = record { cast0 = false; cast1 = false; answered = false; answer = false }
+blank-ballot = record { cast0 = 0; cast1 = 0; answered = false; answer = false }
 
 -- ---- n stations under a rule
 
@@ -45,9 +45,13 @@ bit-ballot rule k = cond (by-station rule) k (2 * k)
 abbrev pub spelled : (rule j v : ℕ) → ℕ
 spelled rule j v = cond (by-station rule) j v
 
--- bit a was cast in the ballot
+-- "the set of stations that cast 0 and the set that cast 1" (document 02, A.2): the one of bit a, as a mask
+abbrev pub voters : Ballot → Bool → ℕ
+voters t a = cond a (t .cast1) (t .cast0)
+
+-- bit a was cast in the ballot: "a bit counts as cast exactly when its set is not empty", whoever is in it, a number from n on too
 abbrev pub was-cast : Ballot → Bool → Bool
-was-cast t a = cond a (t .cast1) (t .cast0)
+was-cast t a = not (eqb (voters t a) 0)
 
 -- ---- changed entries: what an event does not name stays
 
@@ -97,9 +101,15 @@ losing t =
 abbrev pub moved : Stage → (j k d v : ℕ) → Station → Station
 moved g j k d v t = record { stage = g; lost = t .lost; held = t .held; claim = t .claim; cursor = j; round = k; word = d; decision = v }
 
--- a vote: bit a is cast
-abbrev pub casting : Bool → Ballot → Ballot
-casting a t = record { cast0 = cond a (t .cast0) true; cast1 = cond a true (t .cast1); answered = t .answered; answer = t .answer }
+-- a vote: station s casts bit a, and is in its set
+abbrev pub casting : ℕ → Bool → Ballot → Ballot
+casting s a t =
+    record {
+      cast0 = cond a (t .cast0) (insert s (t .cast0));
+      cast1 = cond a (insert s (t .cast1)) (t .cast1);
+      answered = t .answered;
+      answer = t .answer;
+    }
 
 -- ANSWER: the bit a
 abbrev pub answering : Bool → Ballot → Ballot

@@ -56,16 +56,16 @@ pub fn moved(t: Station, g: Stage, j: u8, k: u8, d: Word, v: Word) -> Station
     }
 }
 
-// Bit a cast.
-pub fn casting(t: Ballot, a: bool) -> Ballot
-    ensures { λ x. ⌜ x ≡ casting a t ⌝ }
+// Bit a cast by station s.
+pub fn casting(t: Ballot, s: u8, a: bool) -> Ballot
+    ensures { λ x. ⌜ x ≡ casting s a t ⌝ }
 {
     let mut next = t;
     if a {
-        next.cast1 = true;
+        next.cast1 = mask_with(t.cast1, s);
         return next;
     }
-    next.cast0 = true;
+    next.cast0 = mask_with(t.cast0, s);
     next
 }
 

@@ -35,10 +35,10 @@ pub struct Station {
     pub claim: Word,
 }
 
-// A ballot is a binary consensus instance: which bits were cast in it, whether it is answered, and the answer.
+// A ballot is a binary consensus instance: the masks of the stations that cast 0 and 1 in it, whether it is answered, and the answer.
 pub struct Ballot {
-    pub cast0: bool,
-    pub cast1: bool,
+    pub cast0: u32,
+    pub cast1: u32,
     pub answered: bool,
     pub answer: bool,
 }
@@ -62,8 +62,8 @@ pub fn blank_ballot() -> Ballot
     ensures { λ x. ⌜ x ≡ blank-ballot ⌝ }
 {
     Ballot {
-        cast0: false,
-        cast1: false,
+        cast0: 0,
+        cast1: 0,
         answered: false,
         answer: false,
     }

@@ -57,9 +57,9 @@ pub fn spelled(rule: u8, j: u8, claim: Word) -> Word
     claim
 }
 
-// Whether bit a was cast in the ballot: the one place that says so.
+// Whether bit a was cast in the ballot, by anybody: the one place that says so.
 pub fn was_cast(t: Ballot, a: bool) -> bool
     ensures { λ x. ⌜ x ≡ was-cast t a ⌝ }
 {
-    if a { t.cast1 } else { t.cast0 }
+    if a { t.cast1 != 0 } else { t.cast0 != 0 }
 }
