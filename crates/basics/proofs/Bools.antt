@@ -17,6 +17,10 @@ pub not-false→true : (b : Bool) → not b ≡ false → b ≡ true
 not-false→true true e = refl
 not-false→true false e = sym e
 
+pub not-true→false : (b : Bool) → not b ≡ true → b ≡ false
+not-true→false true e = sym e
+not-true→false false e = refl
+
 pub and-true : (a b : Bool) → (a && b) ≡ true → (a ≡ true) × (b ≡ true)
 and-true true b e = (refl, e)
 and-true false b e = absurd (true≢false (sym e))

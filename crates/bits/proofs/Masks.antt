@@ -2,12 +2,12 @@
 -- How many are in it is the count of ones of the word, digit by digit from the lowest. Assumes nothing.
 use Prim.Native.Nat.{ℕ, zero, suc, _+_, _/_, _%_, _^_, _≤_, _<_}
 use mathlib.Core.Path.{_≡_, refl, sym, ap, ap₂, _∙_, subst}
-use mathlib.Core.Bool.{Bool, true, false, cond}
+use mathlib.Core.Bool.{Bool, true, false, cond, true≢false}
 use native.Mathlib.Omega.{arith}
 use lib.Count.{ones, ones-step}
 use lib.Arith.{lt-one}
 use lib.Dec.{eqb, ltb}
-use borrow.Author.Tests.{eqb-true, eqb-false, ltb-true, ltb-false}
+use borrow.Author.Tests.{eqb-true, eqb-false, ne-eqb, ltb-true, ltb-false}
 use Rattle.basics.specs.Below.{count-below}
 use Rattle.basics.proofs.Bools.{by-bool}
 use Rattle.basics.proofs.Below.{count-same, count-past, count-first, count-more}
@@ -49,6 +49,22 @@ insert-again s mask e =
     (λ l. member-same s mask (ltb-true s mask-bits l) ∙ sym e)
     (λ l. ap (bit s) (member-past s mask (ltb-false s mask-bits l)))))
     (λ q. member-other k s mask (eqb-false k s q)))
+
+-- whoever is in it stays in it
+pub member-stays : (i s mask : ℕ) → member i mask ≡ true → member i (insert s mask) ≡ true
+member-stays i s mask m =
+    by-bool (eqb i s)
+    (λ p. ap (member i) (insert-again s mask (ap (λ (x : ℕ). member x mask) (sym (eqb-true i s p)) ∙ m)) ∙ m)
+    (λ p. member-other i s mask (eqb-false i s p) ∙ m)
+
+-- a mask with a station in it is not 0, and stays so
+pub some-member : (s mask : ℕ) → member s mask ≡ true → eqb mask 0 ≡ false
+some-member s mask e = ne-eqb mask 0 (λ q. true≢false (sym e ∙ ap (member s) q ∙ member-none s))
+
+pub insert-some : (s mask : ℕ) → eqb mask 0 ≡ false → eqb (insert s mask) 0 ≡ false
+insert-some s mask e =
+    by-bool (ltb s mask-bits) (λ l. some-member s (insert s mask) (member-same s mask (ltb-true s mask-bits l)))
+    (λ l. ap (λ (x : ℕ). eqb x 0) (member-past s mask (ltb-false s mask-bits l)) ∙ e)
 
 -- ---- how many
 

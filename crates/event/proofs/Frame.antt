@@ -69,9 +69,9 @@ first-frame : (v : View) (s : ℕ) (once : Bool) →
 first-frame v s true = parts off on on on off on on off on on on on
 first-frame v s false = parts off on on on off on on on on on on on
 
-vote-frame : (a : Bool) (g : Stage) (t : Station) (b : Ballot) → All-but (its-stage ∷ cond a its-cast1 its-cast0 ∷ []) t (staged g t) b (casting a b)
-vote-frame true g t b = parts off on on on on on on on on off on on
-vote-frame false g t b = parts off on on on on on on on off on on on
+vote-frame : (s : ℕ) (a : Bool) (g : Stage) (t : Station) (b : Ballot) → All-but (its-stage ∷ cond a its-cast1 its-cast0 ∷ []) t (staged g t) b (casting s a b)
+vote-frame s true g t b = parts off on on on on on on on on off on on
+vote-frame s false g t b = parts off on on on on on on on off on on on
 
 bit-frame : (v : View) (g : Stage) (d : ℕ) →
     All-but (its-word ∷ its-stage ∷ []) (v .own) (moved g (v .own .cursor) (v .own .round) d (v .own .decision) (v .own)) (v .ballot) (v .ballot)
@@ -104,16 +104,16 @@ seek-frame v j true true false e = parts off on on on off off on on on on on on
 seek-frame v j true false last e = parts off on on on off on on on on on on on
 seek-frame v j false station last e = parts (λ n. e) on on on off on on on on on on on
 
-step-frame : (v : View) (s : ℕ) (g : Stage) → g ≡ v .own .stage → All-but (step-names v g) (v .own) (stepped v s g) (v .ballot) (voted v g)
+step-frame : (v : View) (s : ℕ) (g : Stage) → g ≡ v .own .stage → All-but (step-names v g) (v .own) (stepped v s g) (v .ballot) (voted v s g)
 unfolding step-names stepped started bit-taken finish-taken entry-after-seek sought voted
 step-frame v s Idle e = nothing (v .own) (v .ballot)
 step-frame v s Waiting e = first-frame v s (at-once v)
-step-frame v s Voting e = vote-frame (bit-voted v) Awaiting (v .own) (v .ballot)
+step-frame v s Voting e = vote-frame s (bit-voted v) Awaiting (v .own) (v .ballot)
 step-frame v s Awaiting e = bit-frame v Seeking _
 step-frame v s Seeking e =
     let j = next-cursor (v .count) (v .own .cursor) in
     seek-frame v j (seeking-ends v j) (by-station (v .rule)) (last-round v) e
-step-frame v s FinishVoting e = vote-frame (finish-voted v) FinishAwaiting (v .own) (v .ballot)
+step-frame v s FinishVoting e = vote-frame s (finish-voted v) FinishAwaiting (v .own) (v .ballot)
 step-frame v s FinishAwaiting e = finish-frame v (v .ballot .answer)
 step-frame v s Decided e = nothing (v .own) (v .ballot)
 

@@ -1,16 +1,15 @@
 -- What no accepted event takes back: an accepted event met none of its tests, so a lost, decided or claiming station and an answered ballot are
 -- touched only by events that leave the part as it was. Assumes nothing.
 use Prim.Native.Nat.{ℕ}
-use mathlib.Core.Path.{_≡_, refl, sym, ap, _∙_}
+use mathlib.Core.Path.{_≡_, refl, sym, subst, ap, _∙_}
+use mathlib.Core.Logic.{_⊎_, inl, inr, ⊎-elim}
 use mathlib.Core.Bool.{Bool, true, false, not, _&&_, _||_, Bool·beq, true≢false}
 use lib.Dec.{eqb, ltb}
-use borrow.Author.Tests.{eqb-true, eqb-false, ltb-true, ltb-false}
 use Rattle.basics.specs.Tests.{first-met}
-use Rattle.basics.proofs.Bools.{by-bool, cond-ind, no-clash, not-false→true, beq-true}
+use Rattle.basics.proofs.Bools.{cond-ind, no-clash, not-false→true, not-true→false, beq-true}
 use Rattle.basics.proofs.Refusals.{refused-not}
-use Rattle.bits.specs.Words.{mask-bits, member, insert}
-use Rattle.bits.proofs.Words.{word-outside}
-use Rattle.bits.proofs.Masks.{member-same, member-other}
+use Rattle.bits.specs.Words.{member, insert}
+use Rattle.bits.proofs.Masks.{member-stays, insert-some}
 use Rattle.consensus.specs.Events.{claim, deliver, step, lose, answer}
 use Rattle.consensus.specs.Rules.{as-bit}
 use Rattle.entry.specs.declared.entry.Stage.{Stage}
@@ -19,25 +18,11 @@ use Rattle.entry.specs.declared.entry.Station.{Station}
 use Rattle.entry.specs.declared.entry.Ballot.{Ballot}
 use Rattle.event.specs.declared.view.View.{View}
 use Rattle.entry.specs.Stages.{at, not-idle, is-decided}
-use Rattle.entry.specs.Entries.{no-station, ballots, by-station, was-cast, moved, casting, answering}
+use Rattle.entry.specs.Entries.{no-station, ballots, by-station, voters, moved, casting, answering}
 use Rattle.event.specs.Places.{next-cursor}
 use Rattle.event.specs.Step.{at-once, last-round, seeking-ends, bit-voted, finish-voted, started, bit-taken, finish-taken, entry-after-seek, sought, stepped, voted}
 use Rattle.event.specs.Change.{number-on, own-after, ballot-after}
 use Rattle.event.specs.Frame.{Kept, Never-taken-back, Repeat-stays}
-
--- ---- a claim held stays held
-
-insert-outside : (t mask : ℕ) → ltb t mask-bits ≡ false → insert t mask ≡ mask
-unfolding insert
-insert-outside t mask e = word-outside mask-bits t true mask (ltb-false t mask-bits e)
-
-held-grows : (i t mask : ℕ) → member i mask ≡ true → member i (insert t mask) ≡ true
-held-grows i t mask m = by-bool (eqb i t) (λ p. same (eqb-true i t p)) (λ p. member-other i t mask (eqb-false i t p) ∙ m)
-  where
-    same : i ≡ t → member i (insert t mask) ≡ true
-    same q =
-        by-bool (ltb t mask-bits) (λ l. ap (λ (x : ℕ). member x (insert t mask)) q ∙ member-same t mask (ltb-true t mask-bits l))
-        (λ l. ap (member i) (insert-outside t mask l) ∙ m)
 
 -- ---- CLAIM, DELIVER, LOSE and ANSWER
 
@@ -55,6 +40,7 @@ claim-kept v s c e =
       decision = λ p. refl;
       round = λ p. refl;
       cast = λ a p. p;
+      voter-stays = λ a i p. p;
       answered = λ p. p;
       answer-stays = λ p. refl;
     }
@@ -67,11 +53,12 @@ deliver-kept v t s e =
       lost = λ p. no-clash (v .own .lost) p lives;
       put-in = λ p. p;
       claim-stays = λ p. refl;
-      held = λ i p. held-grows i t (v .own .held) p;
+      held = λ i p. member-stays i t (v .own .held) p;
       decided = λ p. p;
       decision = λ p. refl;
       round = λ p. refl;
       cast = λ a p. p;
+      voter-stays = λ a i p. p;
       answered = λ p. p;
       answer-stays = λ p. refl;
     }
@@ -89,13 +76,14 @@ lose-kept v s e =
       decision = λ p. refl;
       round = λ p. refl;
       cast = λ a p. p;
+      voter-stays = λ a i p. p;
       answered = λ p. p;
       answer-stays = λ p. refl;
     }
 
-answer-cast : (t : Ballot) (x a : Bool) → was-cast t a ≡ true → was-cast (answering x t) a ≡ true
-answer-cast t x true p = p
-answer-cast t x false p = p
+answer-voters : (t : Ballot) (x a : Bool) → voters (answering x t) a ≡ voters t a
+answer-voters t x true = refl
+answer-voters t x false = refl
 
 -- an accepted ANSWER of an answered ballot has the bit that stands
 answer-same : (v : View) (b a : ℕ) → number-on v (answer b a) ≡ 0 → v .ballot .answered ≡ true → as-bit a ≡ v .ballot .answer
@@ -116,7 +104,8 @@ answer-kept v b a e =
       decided = λ p. p;
       decision = λ p. refl;
       round = λ p. refl;
-      cast = answer-cast (v .ballot) (as-bit a);
+      cast = λ c p. ap (λ (m : ℕ). not (eqb m 0)) (answer-voters (v .ballot) (as-bit a) c) ∙ p;
+      voter-stays = λ c i p. ap (member i) (answer-voters (v .ballot) (as-bit a) c) ∙ p;
       answered = λ p. refl;
       answer-stays = λ p. answer-same v b a e p;
     }
@@ -145,26 +134,30 @@ onward v s FinishVoting q p = moved-on refl
 onward v s FinishAwaiting q p = cond-ind (Onward (v .own)) (v .ballot .answer) _ _ (λ b. moved-on refl) (λ b. moved-on refl)
 onward v s Decided q p = record { stage = ap not-idle (sym q) ∙ p; claim = refl; held = refl }
 
--- of the ballot: a bit cast stays cast, and the answer stays
-record Marked (b c : Ballot) : Type 0 where
-  cast : (a : Bool) → was-cast b a ≡ true → was-cast c a ≡ true
+-- of the ballot: sets of voters stay or get one more, and the answer stays
+record Marked (s : ℕ) (b c : Ballot) : Type 0 where
+  sets : (a : Bool) → (voters c a ≡ voters b a) ⊎ (voters c a ≡ insert s (voters b a))
   answered : c .answered ≡ b .answered
   answer : c .answer ≡ b .answer
 
-casting-cast : (x a : Bool) (b : Ballot) → was-cast b a ≡ true → was-cast (casting x b) a ≡ true
-casting-cast true true b p = refl
-casting-cast true false b p = p
-casting-cast false true b p = p
-casting-cast false false b p = refl
-
-marked : (v : View) (g : Stage) → Marked (v .ballot) (voted v g)
+marked : (v : View) (s : ℕ) (g : Stage) → Marked s (v .ballot) (voted v s g)
 unfolding voted
-marked v g =
-    cond-ind (Marked (v .ballot)) (at Voting g) _ _ (λ p. cast-in (bit-voted v))
-    (λ p. cond-ind (Marked (v .ballot)) (at FinishVoting g) _ _ (λ q. cast-in (finish-voted v)) (λ q. record { cast = λ a c. c; answered = refl; answer = refl }))
+marked v s g =
+    cond-ind (Marked s (v .ballot)) (at Voting g) _ _ (λ p. cast-in (bit-voted v))
+    (λ p. cond-ind (Marked s (v .ballot)) (at FinishVoting g) _ _ (λ q. cast-in (finish-voted v)) (λ q. record { sets = λ a. inl refl; answered = refl; answer = refl }))
   where
-    cast-in : (x : Bool) → Marked (v .ballot) (casting x (v .ballot))
-    cast-in x = record { cast = λ a c. casting-cast x a (v .ballot) c; answered = refl; answer = refl }
+    sets-after : (x a : Bool) → (voters (casting s x (v .ballot)) a ≡ voters (v .ballot) a) ⊎ (voters (casting s x (v .ballot)) a ≡ insert s (voters (v .ballot) a))
+    sets-after true true = inr refl
+    sets-after true false = inl refl
+    sets-after false true = inl refl
+    sets-after false false = inr refl
+
+    cast-in : (x : Bool) → Marked s (v .ballot) (casting s x (v .ballot))
+    cast-in x = record { sets = sets-after x; answered = refl; answer = refl }
+
+-- what one more station leaves of a set is left of the sets
+sets-keep : (P : ℕ → Type 0) (s : ℕ) (b c : Ballot) → Marked s b c → ((m : ℕ) → P m → P (insert s m)) → (a : Bool) → P (voters b a) → P (voters c a)
+sets-keep P s b c marks grows a p = ⊎-elim (λ e. subst P (sym e) p) (λ e. subst P (sym e) (grows (voters b a) p)) (marks .sets a)
 
 step-kept : (v : View) (s : ℕ) → number-on v (step s) ≡ 0 → Kept v (step s)
 unfolding first-met own-after ballot-after
@@ -173,7 +166,7 @@ step-kept v s e =
     let late = refused-not (not (not-idle (v .own .stage))) _ _ refl (lives .1) in
     let under-way = refused-not (is-decided (v .own .stage)) _ _ refl (late .1) .0 in
     let on = onward v s (v .own .stage) refl (not-false→true (not-idle (v .own .stage)) (late .0)) in
-    let marks = marked v (v .own .stage) in
+    let marks = marked v s (v .own .stage) in
     record {
       lost = λ p. no-clash (v .own .lost) p (lives .0);
       put-in = λ p. on .stage;
@@ -182,7 +175,8 @@ step-kept v s e =
       decided = λ p. no-clash (is-decided (v .own .stage)) (ap is-decided p) under-way;
       decision = λ p. no-clash (is-decided (v .own .stage)) (ap is-decided p) under-way;
       round = λ p. no-clash (is-decided (v .own .stage)) (ap is-decided p) under-way;
-      cast = marks .cast;
+      cast = sets-keep (λ (m : ℕ). not (eqb m 0) ≡ true) s (v .ballot) _ marks (λ m p. ap not (insert-some s m (not-true→false (eqb m 0) p)));
+      voter-stays = λ a i. sets-keep (λ (m : ℕ). member i m ≡ true) s (v .ballot) _ marks (λ m. member-stays i s m) a;
       answered = λ p. marks .answered ∙ p;
       answer-stays = λ p. marks .answer;
     }

@@ -69,13 +69,13 @@ takes v =
 bit-0 : (a : ℕ) → a ≤ 1 → (a ≡ 1 → ⊥) → a ≡ 0
 bit-0 a l n = omega arith
 
+twice : {P : Type 0} (b : Bool) → Tells b P → Tells (not (not b)) P
+twice true t = t
+twice false t = t
+
 -- idle: not "not idle"
 idle : (g : Stage) → Tells (not (not-idle g)) (g ≡ Idle)
 idle g = twice (at Idle g) (told-apart Idle g)
-  where
-    twice : (b : Bool) → Tells b (g ≡ Idle) → Tells (not (not b)) (g ≡ Idle)
-    twice true t = t
-    twice false t = t
 
 -- a bit, told by its number
 told-bit : {P Q : Type 0} (a : ℕ) → ltb 1 a ≡ false → (t : Bool → Bool) → Tells (t true) P → Tells (t false) Q
@@ -96,7 +96,10 @@ told-bit {P} {Q} a small t one zero = go (eqb a 1) refl
     )
 
 nobody : (v : View) (a : ℕ) → ltb 1 a ≡ false → Tells (not (was-cast (v .ballot) (as-bit a))) (Nobody-cast v a)
-nobody v a small = told-bit a small (λ x. not (was-cast (v .ballot) x)) (is-not (v .ballot .cast1)) (is-not (v .ballot .cast0))
+nobody v a small = told-bit a small (λ x. not (was-cast (v .ballot) x)) (empty (v .ballot .cast1)) (empty (v .ballot .cast0))
+  where
+    empty : (m : ℕ) → Tells (not (not (eqb m 0))) (m ≡ 0)
+    empty m = twice (eqb m 0) (equal m 0)
 
 -- the bit that stands is not a
 not-beq : (x : Bool) → Tells (not (Bool·beq x true)) (x ≡ false) × Tells (not (Bool·beq x false)) (x ≡ true)

@@ -11,20 +11,21 @@ use borrow.Author.Tests.{eqb-true, eqb-false, eq-eqb, ne-eqb}
 use Rattle.basics.proofs.Bools.{by-bool, cond-ind, no-clash, and-true}
 use Rattle.bits.specs.Digits.{bit}
 use Rattle.bits.specs.Log.{ceil-log2}
-use Rattle.bits.specs.Words.{claim-bits, word-with-bit, low-agree, member}
+use Rattle.bits.specs.Words.{claim-bits, word-with-bit, low-agree, member, insert}
 use Rattle.bits.proofs.Masks.{member-same, member-other}
 use Rattle.bits.proofs.Words.{word-same, word-other, agree-bits, bits-agree}
 use Rattle.consensus.specs.Events.{claim, deliver, step, lose, answer}
 use Rattle.entry.specs.declared.entry.Stage.{Stage}
 use Rattle.entry.specs.declared.entry.Stage.the-variants.{Waiting, Voting, Awaiting, Seeking, FinishVoting, FinishAwaiting, Decided}
 use Rattle.entry.specs.declared.entry.Station.{Station}
+use Rattle.entry.specs.declared.entry.Ballot.{Ballot}
 use Rattle.entry.specs.Stages.{at}
 use Rattle.entry.specs.Entries.{by-station, spelled, moved, casting}
 use Rattle.event.specs.declared.view.View.{View}
 use Rattle.event.specs.Places.{next-cursor}
 use Rattle.event.specs.Step.{next-round, at-once, started, bit-taken, finish-taken, last-round, entry-after-seek, seeking-ends, sought, stepped, bit-voted, finish-voted, voted}
 use Rattle.event.specs.Change.{own-after, ballot-after}
-use Rattle.event.specs.Said.{Fits, Waiting-said, Voting-said, Awaiting-said, Seeking-said, Finish-voting-said, Finish-awaiting-said, Step-said, Said, All-said}
+use Rattle.event.specs.Said.{Fits, Waiting-said, Puts-in, Voting-said, Awaiting-said, Seeking-said, Finish-voting-said, Finish-awaiting-said, Step-said, Said, All-said}
 use Rattle.event.proofs.Numbers.{Tells, tells-and, equal}
 
 -- a test that is false tells that its sentence does not hold
@@ -49,14 +50,24 @@ by-number-bit v x r e = ap (λ (b : Bool). bit (v .own .round) (cond b (v .own .
 by-claim-bit : (v : View) (x : Bool) → (v .rule ≡ 1 → ⊥) → bit (v .own .round) (v .beside .claim) ≡ x → bit-voted v ≡ x
 by-claim-bit v x r e = ap (λ (b : Bool). bit (v .own .round) (cond b (v .own .cursor) (v .beside .claim))) (ne-eqb (v .rule) 1 r) ∙ e
 
-voting-said : (v : View) (s : ℕ) → Voting-said v (stepped v s Voting) (voted v Voting)
+put-in : (s set : ℕ) → Puts-in s set (insert s set)
+put-in s set = record { voter = λ l. member-same s set l; nobody-else = λ i d. member-other i s set d }
+
+-- the bit cast is x: the voter is in the set of x
+cast-no : (s : ℕ) (x : Bool) (b : Ballot) → x ≡ false → Puts-in s (b .cast0) (casting s x b .cast0)
+cast-no s x b e = rw e (put-in s (b .cast0))
+
+cast-yes : (s : ℕ) (x : Bool) (b : Ballot) → x ≡ true → Puts-in s (b .cast1) (casting s x b .cast1)
+cast-yes s x b e = rw e (put-in s (b .cast1))
+
+voting-said : (v : View) (s : ℕ) → Voting-said v s (stepped v s Voting) (voted v s Voting)
 unfolding stepped voted
 voting-said v s =
     record {
-      no-by-station = λ r e. ap (λ (x : Bool). casting x (v .ballot) .cast0) (by-number-bit v false r e);
-      yes-by-station = λ r e. ap (λ (x : Bool). casting x (v .ballot) .cast1) (by-number-bit v true r e);
-      no-by-claim = λ r e. ap (λ (x : Bool). casting x (v .ballot) .cast0) (by-claim-bit v false r e);
-      yes-by-claim = λ r e. ap (λ (x : Bool). casting x (v .ballot) .cast1) (by-claim-bit v true r e);
+      no-by-station = λ r e. cast-no s (bit-voted v) (v .ballot) (by-number-bit v false r e);
+      yes-by-station = λ r e. cast-yes s (bit-voted v) (v .ballot) (by-number-bit v true r e);
+      no-by-claim = λ r e. cast-no s (bit-voted v) (v .ballot) (by-claim-bit v false r e);
+      yes-by-claim = λ r e. cast-yes s (bit-voted v) (v .ballot) (by-claim-bit v true r e);
       awaits = refl;
     }
 
@@ -73,12 +84,12 @@ awaiting-said v s =
 
 -- ---- the finish ballot
 
-finish-voting-said : (v : View) (s : ℕ) → Finish-voting-said v (stepped v s FinishVoting) (voted v FinishVoting)
+finish-voting-said : (v : View) (s : ℕ) → Finish-voting-said v s (stepped v s FinishVoting) (voted v s FinishVoting)
 unfolding stepped voted
 finish-voting-said v s =
     record {
-      yes = λ e. ap (λ (x : Bool). casting x (v .ballot) .cast1) (eq-eqb (v .own .word) (v .beside .claim) e);
-      no = λ d. ap (λ (x : Bool). casting x (v .ballot) .cast0) (ne-eqb (v .own .word) (v .beside .claim) d);
+      yes = λ e. cast-yes s (finish-voted v) (v .ballot) (eq-eqb (v .own .word) (v .beside .claim) e);
+      no = λ d. cast-no s (finish-voted v) (v .ballot) (ne-eqb (v .own .word) (v .beside .claim) d);
       awaits = refl;
     }
 
@@ -180,10 +191,10 @@ unfolding own-after ballot-after
 steps-said v s =
     record {
       waiting = λ e. subst (λ (g : Stage). Waiting-said v s (stepped v s g)) (sym e) (waiting-said v s);
-      voting = λ e. subst (λ (g : Stage). Voting-said v (stepped v s g) (voted v g)) (sym e) (voting-said v s);
+      voting = λ e. subst (λ (g : Stage). Voting-said v s (stepped v s g) (voted v s g)) (sym e) (voting-said v s);
       awaiting = λ e. subst (λ (g : Stage). Awaiting-said v (stepped v s g)) (sym e) (awaiting-said v s);
       seeking = λ e. subst (λ (g : Stage). Seeking-said v (stepped v s g)) (sym e) (seeking-said v s);
-      finish-voting = λ e. subst (λ (g : Stage). Finish-voting-said v (stepped v s g) (voted v g)) (sym e) (finish-voting-said v s);
+      finish-voting = λ e. subst (λ (g : Stage). Finish-voting-said v s (stepped v s g) (voted v s g)) (sym e) (finish-voting-said v s);
       finish-awaiting = λ e. subst (λ (g : Stage). Finish-awaiting-said v (stepped v s g)) (sym e) (finish-awaiting-said v s);
     }
 

@@ -27,7 +27,7 @@ own-after v (answer b a) = v .own
 unfoldable pub ballot-after : View → Event → Ballot
 ballot-after v (claim s c) = v .ballot
 ballot-after v (deliver t s) = v .ballot
-ballot-after v (step s) = voted v (v .own .stage)
+ballot-after v (step s) = voted v s (v .own .stage)
 ballot-after v (lose s) = v .ballot
 ballot-after v (answer b a) = answering (as-bit a) (v .ballot)
 

@@ -13,7 +13,7 @@ use Rattle.entry.specs.declared.entry.Station.{Station}
 use Rattle.entry.specs.declared.entry.Ballot.{Ballot}
 use Rattle.event.specs.declared.view.View.{View}
 use Rattle.entry.specs.Stages.{not-idle}
-use Rattle.entry.specs.Entries.{by-station, was-cast}
+use Rattle.entry.specs.Entries.{by-station, voters, was-cast}
 use Rattle.event.specs.Places.{next-cursor}
 use Rattle.event.specs.Step.{at-once, seeking-ends, last-round, bit-voted, finish-voted}
 use Rattle.event.specs.Change.{number-on, own-after, ballot-after}
@@ -63,7 +63,7 @@ pub record All-but (l : List Part) (t u : Station) (b c : Ballot) : Type 0 where
 abbrev seek-names : View → List Part
 seek-names v = cond (by-station (v .rule)) (cond (last-round v) (its-stage ∷ its-decision ∷ []) (its-stage ∷ its-round ∷ [])) (its-stage ∷ [])
 
--- a vote: the stage, and the mark of the bit cast
+-- a vote: the stage, and the set of the bit cast
 abbrev vote-names : Bool → List Part
 vote-names a = its-stage ∷ cond a its-cast1 its-cast0 ∷ []
 
@@ -106,6 +106,8 @@ pub record Kept (v : View) (e : Event) : Type 0 where
   pub round : v .own .stage ≡ Decided → own-after v e .round ≡ v .own .round
   -- "A vote counts though its voter is lost later": a bit once cast stays cast
   pub cast : (a : Bool) → was-cast (v .ballot) a ≡ true → was-cast (ballot-after v e) a ≡ true
+  -- and whoever cast it stays in its set (document 02, A.2)
+  pub voter-stays : (a : Bool) (i : ℕ) → member i (voters (v .ballot) a) ≡ true → member i (voters (ballot-after v e) a) ≡ true
   -- "Answered: an ANSWER was accepted, and the first gives the bit"
   pub answered : v .ballot .answered ≡ true → ballot-after v e .answered ≡ true
   pub answer-stays : v .ballot .answered ≡ true → ballot-after v e .answer ≡ v .ballot .answer

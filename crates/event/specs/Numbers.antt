@@ -25,9 +25,9 @@ Must-wait v s =
 abbrev pub Takes-last-no : View → Type 0
 Takes-last-no v = ((v .own .stage ≡ FinishAwaiting) × (v .ballot .answer ≡ false)) × (2 * v .own .round + 1 ≡ 63)
 
--- "no station has cast a in b"
+-- "no station has cast a in b": its set is empty (document 02, A.2)
 abbrev pub Nobody-cast : View → ℕ → Type 0
-Nobody-cast v a = ((a ≡ 1) × (v .ballot .cast1 ≡ false)) ⊎ ((a ≡ 0) × (v .ballot .cast0 ≡ false))
+Nobody-cast v a = ((a ≡ 1) × (v .ballot .cast1 ≡ 0)) ⊎ ((a ≡ 0) × (v .ballot .cast0 ≡ 0))
 
 -- "the other bit only": the ballot has an answer, and not this one (document 02, A.1)
 abbrev pub Other-stands : View → ℕ → Type 0

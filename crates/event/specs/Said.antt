@@ -28,12 +28,18 @@ pub record Waiting-said (v : View) (s : ℕ) (u : Station) : Type 0 where
   pub votes : ((v .rule ≡ 1) × (v .count ≡ 1) → ⊥) → u .stage ≡ Voting
   pub decides : (v .rule ≡ 1) × (v .count ≡ 1) → (u .stage ≡ Decided) × (u .decision ≡ v .own .claim)
 
-pub record Voting-said (v : View) (u : Station) (c : Ballot) : Type 0 where
+-- "the set of stations that cast" a bit (document 02, A.2), before and after station s casts it: s is in it, and nobody else came or went.
+-- A set has room for 32 stations
+pub record Puts-in (s before after : ℕ) : Type 0 where
+  pub voter : s < 32 → member s after ≡ true
+  pub nobody-else : (i : ℕ) → (i ≡ s → ⊥) → member i after ≡ member i before
+
+pub record Voting-said (v : View) (s : ℕ) (u : Station) (c : Ballot) : Type 0 where
   -- "Rule 1 casts bit k of j .. Rule 2 casts bit k of the claim of j .. Then awaiting."
-  pub no-by-station : v .rule ≡ 1 → bit (v .own .round) (v .own .cursor) ≡ false → c .cast0 ≡ true
-  pub yes-by-station : v .rule ≡ 1 → bit (v .own .round) (v .own .cursor) ≡ true → c .cast1 ≡ true
-  pub no-by-claim : (v .rule ≡ 1 → ⊥) → bit (v .own .round) (v .beside .claim) ≡ false → c .cast0 ≡ true
-  pub yes-by-claim : (v .rule ≡ 1 → ⊥) → bit (v .own .round) (v .beside .claim) ≡ true → c .cast1 ≡ true
+  pub no-by-station : v .rule ≡ 1 → bit (v .own .round) (v .own .cursor) ≡ false → Puts-in s (v .ballot .cast0) (c .cast0)
+  pub yes-by-station : v .rule ≡ 1 → bit (v .own .round) (v .own .cursor) ≡ true → Puts-in s (v .ballot .cast1) (c .cast1)
+  pub no-by-claim : (v .rule ≡ 1 → ⊥) → bit (v .own .round) (v .beside .claim) ≡ false → Puts-in s (v .ballot .cast0) (c .cast0)
+  pub yes-by-claim : (v .rule ≡ 1 → ⊥) → bit (v .own .round) (v .beside .claim) ≡ true → Puts-in s (v .ballot .cast1) (c .cast1)
   pub awaits : u .stage ≡ Awaiting
 
 pub record Awaiting-said (v : View) (u : Station) : Type 0 where
@@ -53,10 +59,10 @@ pub record Seeking-said (v : View) (u : Station) : Type 0 where
   pub adds : Fits v (u .cursor) → v .rule ≡ 1 → (v .own .round + 1 ≡ ceil-log2 (v .count) → ⊥) → v .own .round < 255 → u .round ≡ v .own .round + 1
   pub finish : Fits v (u .cursor) → (v .rule ≡ 1 → ⊥) → u .stage ≡ FinishVoting
 
-pub record Finish-voting-said (v : View) (u : Station) (c : Ballot) : Type 0 where
+pub record Finish-voting-said (v : View) (s : ℕ) (u : Station) (c : Ballot) : Type 0 where
   -- "it casts 1 if d equals the whole claim of j, otherwise 0. Then awaiting"
-  pub yes : v .own .word ≡ v .beside .claim → c .cast1 ≡ true
-  pub no : (v .own .word ≡ v .beside .claim → ⊥) → c .cast0 ≡ true
+  pub yes : v .own .word ≡ v .beside .claim → Puts-in s (v .ballot .cast1) (c .cast1)
+  pub no : (v .own .word ≡ v .beside .claim → ⊥) → Puts-in s (v .ballot .cast0) (c .cast0)
   pub awaits : u .stage ≡ FinishAwaiting
 
 pub record Finish-awaiting-said (v : View) (u : Station) : Type 0 where
@@ -66,10 +72,10 @@ pub record Finish-awaiting-said (v : View) (u : Station) : Type 0 where
 
 pub record Step-said (v : View) (s : ℕ) (u : Station) (c : Ballot) : Type 0 where
   pub waiting : v .own .stage ≡ Waiting → Waiting-said v s u
-  pub voting : v .own .stage ≡ Voting → Voting-said v u c
+  pub voting : v .own .stage ≡ Voting → Voting-said v s u c
   pub awaiting : v .own .stage ≡ Awaiting → Awaiting-said v u
   pub seeking : v .own .stage ≡ Seeking → Seeking-said v u
-  pub finish-voting : v .own .stage ≡ FinishVoting → Finish-voting-said v u c
+  pub finish-voting : v .own .stage ≡ FinishVoting → Finish-voting-said v s u c
   pub finish-awaiting : v .own .stage ≡ FinishAwaiting → Finish-awaiting-said v u
 
 pub record Said (v : View) : Type 0 where

@@ -87,9 +87,9 @@ bit-voted v = bit (v .own .round) (spelled (v .rule) (v .own .cursor) (v .beside
 abbrev pub finish-voted : View → Bool
 finish-voted v = eqb (v .own .word) (v .beside .claim)
 
--- the ballot's entry after it
-unfoldable pub voted : View → Stage → Ballot
-voted v g =
+-- the ballot's entry after a STEP of station s: the voter is in the set of its bit
+unfoldable pub voted : View → ℕ → Stage → Ballot
+voted v s g =
     cond (at Voting g)
-    (casting (bit-voted v) (v .ballot))
-    (cond (at FinishVoting g) (casting (finish-voted v) (v .ballot)) (v .ballot))
+    (casting s (bit-voted v) (v .ballot))
+    (cond (at FinishVoting g) (casting s (finish-voted v) (v .ballot)) (v .ballot))
