@@ -115,16 +115,16 @@ fn stays(v: View, number: u8, own: Station) -> Change
     }
 }
 
-// The bit a is cast, and the station goes to the stage g.
-fn casts(v: View, number: u8, g: Stage, a: bool) -> Change
-    ensures { λ x. ⌜ x ≡ record { number = number; own = staged g (v .own); ballot = casting a (v .ballot) } ⌝ }
+// Station s casts the bit a, and goes to the stage g.
+fn casts(v: View, s: u8, number: u8, g: Stage, a: bool) -> Change
+    ensures { λ x. ⌜ x ≡ record { number = number; own = staged g (v .own); ballot = casting s a (v .ballot) } ⌝ }
 {
     let t = v.own;
     let ballot = v.ballot;
     Change {
         number,
         own: staged(t, g),
-        ballot: casting(ballot, a),
+        ballot: casting(ballot, s, a),
     }
 }
 
@@ -143,11 +143,12 @@ pub(crate) fn step_change(v: View, s: u8) -> Change
             early(v, s, refuse(!mask_has(t.held, s), 8, 0)),
             started(v, s),
         ),
-        Stage::Voting => casts(v, early(v, s, 0), Stage::Awaiting, bit_voted(v)),
+        Stage::Voting => casts(v, s, early(v, s, 0), Stage::Awaiting, bit_voted(v)),
         Stage::Awaiting => stays(v, early(v, s, refuse(!ballot.answered, 8, 0)), bit_taken(v)),
         Stage::Seeking => stays(v, early(v, s, 0), sought(v, next_cursor(v.count, t.cursor))),
         Stage::FinishVoting => casts(
             v,
+            s,
             early(v, s, 0),
             Stage::FinishAwaiting,
             t.word == beside.claim,
