@@ -4,7 +4,7 @@ ghost use Rattle.basics.specs.Tests.{first-met};
 ghost use Rattle.event.specs.Tests.{claim-tests, deliver-tests, lose-tests, answer-tests};
 use basics::refusal::refuse;
 use bits::mask::mask_has;
-use entry::reading::ballot_count;
+use entry::reading::no_ballot;
 use entry::reading::no_station;
 use entry::reading::was_cast;
 use entry::stage::not_idle;
@@ -50,10 +50,5 @@ pub(crate) fn answer_number(v: View, b: u8, a: u8) -> u8
         11,
         refuse(!ballot.answered & !was_cast(ballot, yes), 12, 0),
     );
-    let i = b as usize;
-    refuse(
-        !(i < ballot_count(v.count, v.rule)),
-        9,
-        refuse(1 < a, 10, later),
-    )
+    refuse(no_ballot(v.count, v.rule, b), 9, refuse(1 < a, 10, later))
 }

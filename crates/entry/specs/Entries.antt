@@ -37,6 +37,9 @@ by-station rule = eqb rule 1
 abbrev pub ballots : ℕ → ℕ → ℕ
 ballots n rule = cond (eqb n 0) 0 (cond (by-station rule) (ceil-log2 n) ballot-entries)
 
+abbrev pub no-ballot : (n rule b : ℕ) → Bool
+no-ballot n rule b = not (ltb b (ballots n rule))
+
 -- the ballot that settles bit k: k by station, 2k by claim
 abbrev pub bit-ballot : ℕ → ℕ → ℕ
 bit-ballot rule k = cond (by-station rule) k (2 * k)

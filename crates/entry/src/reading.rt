@@ -1,7 +1,7 @@
 // Ballots and bits, by the number of stations and the rule.
 ghost use mathlib.Core.Path.{_≡_};
 ghost use Rattle.consensus.specs.Rules.{finish-ballot};
-ghost use Rattle.entry.specs.Entries.{ballots, bit-ballot, spelled, was-cast, no-station};
+ghost use Rattle.entry.specs.Entries.{ballots, no-ballot, bit-ballot, spelled, was-cast, no-station};
 use crate::entry::BALLOT_ENTRIES;
 use crate::entry::Ballot;
 use bits::logarithm::ceil_log2;
@@ -26,6 +26,13 @@ pub fn ballot_count(n: u8, rule: u8) -> usize
         return ceil_log2(n) as usize;
     }
     BALLOT_ENTRIES
+}
+
+pub fn no_ballot(n: u8, rule: u8, b: u8) -> bool
+    ensures { λ x. ⌜ x ≡ no-ballot n rule b ⌝ }
+{
+    let i = b as usize;
+    !(i < ballot_count(n, rule))
 }
 
 // The ballot that settles bit k.

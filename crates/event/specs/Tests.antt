@@ -11,7 +11,7 @@ use Rattle.consensus.specs.Rules.{finish-ballot, as-bit}
 use Rattle.entry.specs.declared.entry.Stage.the-variants.{Waiting, Awaiting, FinishAwaiting}
 use Rattle.event.specs.declared.view.View.{View}
 use Rattle.entry.specs.Stages.{at, not-idle, is-decided}
-use Rattle.entry.specs.Entries.{ballot-entries, no-station, ballots, was-cast}
+use Rattle.entry.specs.Entries.{ballot-entries, no-station, no-ballot, was-cast}
 
 abbrev pub claim-tests : View → ℕ → List Test
 claim-tests v s =
@@ -61,7 +61,7 @@ lose-tests v s =
 -- document 02, A.1: "the answer a ballot already has is accepted again", "Number 11 is for the other bit only", "12 is met only where no answer stands"
 abbrev pub answer-tests : View → ℕ → ℕ → List Test
 answer-tests v b a =
-    when (not (ltb b (ballots (v .count) (v .rule)))) 9
+    when (no-ballot (v .count) (v .rule) b) 9
     ∷ when (ltb 1 a) 10
     ∷ when (v .ballot .answered && not (Bool·beq (v .ballot .answer) (as-bit a))) 11
     ∷ when (not (v .ballot .answered) && not (was-cast (v .ballot) (as-bit a))) 12

@@ -1,6 +1,6 @@
 -- The record beside the play: what a record says of stations and ballots, and the records that a list of events leads to from OPEN.
 -- Assumes nothing.
-use Prim.Native.Nat.{ℕ, _<_}
+use Prim.Native.Nat.{ℕ, _≤_, _<_}
 use mathlib.Core.Path.{_≡_}
 use mathlib.Core.Bool.{Bool, true, cond, _&&_}
 use mathlib.Core.Option.{Option, none, some}
@@ -9,14 +9,13 @@ use Rattle.bits.specs.Words.{member}
 use Rattle.consensus.specs.Events.{History, start, _▷_, Rule, rule-1, rule-2, Opening}
 use Rattle.consensus.specs.State as play
 use Rattle.consensus.specs.Rules.{is-bit}
-use Rattle.basics.specs.Below.{any-below}
 use Rattle.entry.specs.declared.entry.Stage.{Stage}
 use Rattle.entry.specs.declared.entry.Stage.the-variants.{Idle, Waiting, Voting, Awaiting, Seeking, FinishVoting, FinishAwaiting, Decided}
 use Rattle.entry.specs.declared.entry.Station.{Station}
 use Rattle.entry.specs.declared.entry.Ballot.{Ballot}
 use Rattle.settlement.specs.declared.record.Settlement.{Settlement}
 use Rattle.settlement.specs.Record.{entry, ballot}
-use Rattle.entry.specs.Entries.{was-cast}
+use Rattle.entry.specs.Entries.{voters}
 use Rattle.settlement.specs.Events.{opened, played}
 
 -- rule 1 is by station, rule 2 by claim
@@ -52,7 +51,7 @@ stands-at t = stage-of (t .stage) (t .cursor) (t .round) (t .word) (t .decision)
 abbrev pub answer-in : Ballot → Option Bool
 answer-in t = cond (t .answered) (some (t .answer)) none
 
--- The record r shows the play's state st: each of the n stations, and each ballot. The record keeps that a bit was cast, the play who cast it.
+-- The record r shows the play's state st: each of the n stations, and each ballot with its voters (document 02, A.2).
 pub record Shows-play (o : Opening) (r : Settlement) (st : play.State) : Type 0 where
   pub count : r .count ≡ o .count
   pub rule : r .rule ≡ rule-number (o .rule)
@@ -61,4 +60,5 @@ pub record Shows-play (o : Opening) (r : Settlement) (st : play.State) : Type 0 
   pub holds : (s t : ℕ) → s < o .count → member t (entry r s .held) ≡ st .station s .holds t
   pub lost : (s : ℕ) → s < o .count → entry r s .lost ≡ st .station s .lost
   pub answer : (b : ℕ) → answer-in (ballot r b) ≡ st .answer-of b
-  pub cast : (b : ℕ) (a : Bool) → was-cast (ballot r b) a ≡ any-below (o .count) (λ s. is-bit a (st .station s .cast b))
+  pub cast : (b s : ℕ) (a : Bool) → s < o .count → member s (voters (ballot r b) a) ≡ is-bit a (st .station s .cast b)
+  pub cast-only : (b s : ℕ) (a : Bool) → o .count ≤ s → member s (voters (ballot r b) a) ≡ false

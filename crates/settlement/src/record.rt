@@ -26,3 +26,15 @@ pub struct Standing {
     pub claim: Word,
     pub votes: u8,
 }
+
+// What a look at a ballot answers: 0 or the number of the refusal; the masks of the stations that cast 0 and 1, how many are in each, whether there
+// is an answer, and the answer.
+pub struct Tally {
+    pub number: u8,
+    pub cast0: u32,
+    pub cast1: u32,
+    pub count0: u8,
+    pub count1: u8,
+    pub answered: bool,
+    pub answer: bool,
+}

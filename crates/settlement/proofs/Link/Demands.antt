@@ -12,6 +12,7 @@ use lib.Dec.{eqb, ltb}
 use lib.ListN.{length, getD, replicate, length-replicate}
 use borrow.Author.Tests.{eqb-true, eqb-false, ne-eqb, le-ltb, lt-ltb, ltb-true, ltb-false}
 use Rattle.bits.specs.Log.{ceil-log2}
+use Rattle.bits.specs.Words.{member}
 use Rattle.bits.proofs.Masks.{member-none}
 use Rattle.consensus.specs.Events.{Event, claim, deliver, step, lose, answer, History, start, _▷_, Rule, rule-1, rule-2, Opening, Openable}
 use Rattle.consensus.specs.State as play
@@ -36,8 +37,8 @@ use Rattle.entry.specs.declared.entry.Station.{Station}
 use Rattle.settlement.specs.declared.record.Settlement.{Settlement}
 use Rattle.settlement.specs.declared.record.Standing.{Standing}
 use Rattle.consensus.specs.Rules.{finish-ballot}
-use Rattle.entry.specs.Entries.{bit-ballot, station-entries, ballot-entries, blank-station, blank-ballot, no-station, was-cast}
-use Rattle.settlement.specs.Record.{entry}
+use Rattle.entry.specs.Entries.{bit-ballot, station-entries, ballot-entries, blank-station, blank-ballot, no-station, voters}
+use Rattle.settlement.specs.Record.{entry, ballot}
 use Rattle.entry.specs.Stages.{is-decided}
 use Rattle.settlement.specs.Fault.{fault}
 use Rattle.settlement.specs.Events.{open-tests, number, outcome, fresh, blank, opened, effect, played}
@@ -47,7 +48,6 @@ use Rattle.settlement.specs.Link.{rule-number, record-after, stage-of, a
 use Rattle.settlement.specs.Demands.{Answers-told, In-ranges, Demand2-of-records, blank-number, Demands}
 use Rattle.settlement.proofs.Link.Linked.{Entry-shows, Linked, linked-shows}
 use Rattle.settlement.proofs.Link.Faultless.{rule-known, faultless}
-use Rattle.basics.proofs.Below.{none-below}
 use Rattle.settlement.proofs.Link.Numbers.{bit-ballot-same, ballot-answered, number-same}
 use Rattle.settlement.proofs.Link.Effects.{effect-linked}
 use Rattle.settlement.proofs.Answers.{again}
@@ -81,15 +81,16 @@ fresh-linked o a = record {
       subst (λ (t : Station). Entry-shows (o .count) t play.untouched) (sym (all-blank station-entries s blank-station))
       (record { stage = refl; claim = refl; holds = λ i. member-none i; lost = refl; cursor = a .some-station; early = (refl, refl) });
   answer = λ b. ap answer-in (all-blank ballot-entries b blank-ballot);
-  cast = λ b y.
-      ap (λ t. was-cast t y) (all-blank ballot-entries b blank-ballot)
-      ∙ blank-uncast y
-      ∙ sym (none-below (o .count) (λ s. false) (λ i l. refl));
+  cast = λ b s y l. uncast b s y;
+  cast-only = λ b s y l. uncast b s y;
 }
   where
-    blank-uncast : (y : Bool) → was-cast blank-ballot y ≡ false
-    blank-uncast true = refl
-    blank-uncast false = refl
+    blank-uncast : (s : ℕ) (y : Bool) → member s (voters blank-ballot y) ≡ false
+    blank-uncast s true = member-none s
+    blank-uncast s false = member-none s
+
+    uncast : (b s : ℕ) (y : Bool) → member s (voters (ballot (fresh (o .count) (rule-number (o .rule))) b) y) ≡ false
+    uncast b s y = ap (λ t. member s (voters t y)) (all-blank ballot-entries b blank-ballot) ∙ blank-uncast s y
 
 -- ---- lists
 

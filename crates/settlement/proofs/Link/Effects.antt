@@ -163,15 +163,15 @@ module _ (o : Opening) (a : Openable o) (r : Settlement) (st : play.State) (l : 
 
     -- the station goes to the stage g, and casts y in ballot b
     abbrev cast-at : Stage → ℕ → Bool → Settlement
-    cast-at g b y = with-ballot b (casting y (ballot r b)) (with-station s (staged g t) r)
+    cast-at g b y = with-ballot b (casting s y (ballot r b)) (with-station s (staged g t) r)
 
     -- the station votes
     votes : (g : Stage) (g' : play.Stage) (b c : ℕ) (y z : Bool) → b ≡ c → y ≡ z → stage-of g (t .cursor) (t .round) (t .word) (t .decision) ≡ g'
         → Early g (t .round) (t .word)
         → c < events.ballots o → p .cast c ≡ none → Linked o (cast-at g b y) (play.set-station st s (rules.casting c z g' p))
     votes g g' b c y z q w e early i unvoted =
-        subst (λ (m : ℕ). Linked o (with-ballot m (casting y (ballot r m)) (with-station s (staged g t) r)) (play.set-station st s (rules.casting c z g' p))) (sym q)
-        (subst (λ (u : Bool). Linked o (with-ballot c (casting u (ballot r c)) (with-station s (staged g t) r)) (play.set-station st s (rules.casting c z g' p))) (sym w)
+        subst (λ (m : ℕ). Linked o (with-ballot m (casting s y (ballot r m)) (with-station s (staged g t) r)) (play.set-station st s (rules.casting c z g' p))) (sym q)
+        (subst (λ (u : Bool). Linked o (with-ballot c (casting s u (ballot r c)) (with-station s (staged g t) r)) (play.set-station st s (rules.casting c z g' p))) (sym w)
         (vote-linked o a r st l s below (staged g t) (rules.casting c z g' p)
         (moved-shows n t st s (rules.casting c z g' p .cast) x g (t .cursor) (t .round) (t .word) (t .decision) g' e (x .cursor) early)
         c (inside c i) z unvoted refl))
@@ -192,7 +192,7 @@ module _ (o : Opening) (a : Openable o) (r : Settlement) (st : play.State) (l : 
         }
 
     abbrev effect-at : Stage → Settlement
-    effect-at g = with-ballot (step-ballot (r .rule) (t .round) g) (voted (view-at g) g) (with-station s (stepped (view-at g) s g) r)
+    effect-at g = with-ballot (step-ballot (r .rule) (t .round) g) (voted (view-at g) s g) (with-station s (stepped (view-at g) s g) r)
 
     -- a station in a round has one that a claim has a bit for
     low : {g : Stage} → t .stage ≡ g → (in-round g || on-finish g) ≡ true → t .round < claim-bits

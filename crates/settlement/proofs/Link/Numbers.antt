@@ -33,7 +33,7 @@ use Rattle.event.specs.Change.{number-on}
 use Rattle.settlement.specs.Record.{entry, ballot, view}
 use Rattle.settlement.specs.Events.{number}
 use Rattle.settlement.specs.Link.{rule-number, stage-of, answer-in}
-use Rattle.settlement.proofs.Link.Linked.{Linked}
+use Rattle.settlement.proofs.Link.Linked.{Linked, cast-some}
 use Rattle.settlement.proofs.Link.Faultless.{faultless}
 
 pub not-idle-same : (g : Stage) (j k d v : ℕ) → not-idle g ≡ play.not-idle (stage-of g j k d v)
@@ -173,7 +173,7 @@ module _ (o : Opening) (a : Openable o) (r : Settlement) (st : play.State) (l : 
       refuse-both (ltb 1 v) (ltb 1 v) _ _ _ refl
       (λ f.
       stands-same (ballot r b) (st .answer-of b) (as-bit v) _ (l .answer b)
-      ∙ ap (rules.answer-number (st .answer-of b) (as-bit v)) (l .cast b (as-bit v))))
+      ∙ ap (rules.answer-number (st .answer-of b) (as-bit v)) (cast-some o r st l b (as-bit v))))
 
   pub number-same : Short o st → (e : Event) → number r e ≡ rules.number o st e
   unfolding number first-met
