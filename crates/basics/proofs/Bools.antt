@@ -33,6 +33,16 @@ pub or-false : (a b : Bool) → (a || b) ≡ false → (a ≡ false) × (b ≡ f
 or-false true b e = absurd (true≢false e)
 or-false false b e = (refl, e)
 
+pub or-later : (a b : Bool) → b ≡ true → (a || b) ≡ true
+or-later true b e = refl
+or-later false b e = e
+
+-- each is true where the other is
+pub both-ways : (a b : Bool) → (a ≡ true → b ≡ true) → (b ≡ true → a ≡ true) → a ≡ b
+both-ways true b f g = sym (f refl)
+both-ways false true f g = g refl
+both-ways false false f g = refl
+
 pub beq-same : (a : Bool) → Bool·beq a a ≡ true
 beq-same true = refl
 beq-same false = refl

@@ -17,3 +17,9 @@ pub set-again : {A : Type 0} (l : List A) (i : ℕ) (d : A) → set l i (getD l 
 set-again [] i d = refl
 set-again (x ∷ xs) zero d = refl
 set-again (x ∷ xs) (suc i) d = ap (λ (q : List _). x ∷ q) (set-again xs i d)
+
+-- what stands where an entry was stored: that entry, or past the end what stood there
+pub set-either : {A : Type 0} (C : A → Type 0) (l : List A) (i : ℕ) (x d : A) → C x → C (getD l i d) → C (getD (set l i x) i d)
+set-either C [] i x d new old = old
+set-either C (y ∷ ys) zero x d new old = new
+set-either C (y ∷ ys) (suc i) x d new old = set-either C ys i x d new old

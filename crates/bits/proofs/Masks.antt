@@ -8,12 +8,12 @@ use lib.Count.{ones, ones-step}
 use lib.Arith.{lt-one}
 use lib.Dec.{eqb, ltb}
 use borrow.Author.Tests.{eqb-true, eqb-false, ne-eqb, ltb-true, ltb-false}
-use Rattle.basics.specs.Below.{count-below}
+use Rattle.basics.specs.Below.{any-below, count-below}
 use Rattle.basics.proofs.Bools.{by-bool}
-use Rattle.basics.proofs.Below.{count-same, count-past, count-first, count-more}
-use Rattle.bits.specs.Digits.{value, bit}
+use Rattle.basics.proofs.Below.{any-found, any-none, count-same, count-past, count-first, count-more}
+use Rattle.bits.specs.Digits.{value, bit, bit-length}
 use Rattle.bits.specs.Words.{mask-bits, member, insert, size, Mask-laws, Ones-rule}
-use Rattle.bits.proofs.Digits.{bit-zero, bit-low, bit-step, bit-ext, half-lt, lowest-value}
+use Rattle.bits.proofs.Digits.{bit-zero, bit-low, bit-step, bit-ext, bit-above, half-lt, lowest-value, length-bound}
 use Rattle.bits.proofs.Words.{word-outside, word-same, word-other}
 
 pub member-none : (s : ℕ) → member s 0 ≡ false
@@ -60,6 +60,20 @@ member-stays i s mask m =
 -- a mask with a station in it is not 0, and stays so
 pub some-member : (s mask : ℕ) → member s mask ≡ true → eqb mask 0 ≡ false
 some-member s mask e = ne-eqb mask 0 (λ q. true≢false (sym e ∙ ap (member s) q ∙ member-none s))
+
+-- and one that is not 0 has a station in it
+pub some-in : (mask : ℕ) → eqb mask 0 ≡ false → (s : ℕ) × (member s mask ≡ true)
+unfolding member
+some-in mask e = by-bool (any-below (bit-length mask) f) (λ q. let t = any-found (bit-length mask) f q in (t .0, t .2)) (λ q. absurd (eqb-false mask 0 e (nobody q)))
+  where
+    f : ℕ → Bool
+    f s = bit s mask
+
+    nobody : any-below (bit-length mask) f ≡ false → mask ≡ 0
+    nobody q =
+        empty-only mask (λ s.
+        by-bool (ltb s (bit-length mask)) (λ l. any-none (bit-length mask) f q s (ltb-true s (bit-length mask) l))
+        (λ l. bit-above (bit-length mask) mask (length-bound mask) s (ltb-false s (bit-length mask) l)))
 
 pub insert-some : (s mask : ℕ) → eqb mask 0 ≡ false → eqb (insert s mask) 0 ≡ false
 insert-some s mask e =

@@ -11,7 +11,7 @@ use lib.Arith.{le-zero, digits-div, digits-mod, mod-mul}
 use lib.Dec.{eqb, ltb}
 use lib.Pow.{pow-pos}
 use borrow.Author.Tests.{eqb-true, eq-eqb, lt-ltb, le-ltb, ltb-true, ltb-false}
-use Rattle.basics.proofs.Bools.{beq-same, beq-true}
+use Rattle.basics.proofs.Bools.{both-ways, beq-same, beq-true}
 use Rattle.bits.specs.Digits.{value, bit}
 use Rattle.bits.specs.Words.{with-bit, low-agree, word-with-bit, Bit-laws, Word-laws}
 use Rattle.bits.proofs.Digits.{bit-low, bit-step, bit-ext, bit-above, lt-of-bits, halves, lowest-value}
@@ -134,15 +134,10 @@ same-mod k a b same = bit-ext (a % 2 ^ k) (b % 2 ^ k) (λ i. go i (ltb i k) refl
         let g = ltb-false i k e in
         bit-above k (a % 2 ^ k) (mod-lt a (pow-pos k)) i g ∙ sym (bit-above k (b % 2 ^ k) (mod-lt b (pow-pos k)) i g)
 
-same-flag : (x y : Bool) → (x ≡ true → y ≡ true) → (y ≡ true → x ≡ true) → x ≡ y
-same-flag true y f g = sym (f refl)
-same-flag false true f g = g refl
-same-flag false false f g = refl
-
 pub low-agree-mod : (k a b : ℕ) → low-agree k a b ≡ eqb (a % 2 ^ suc k) (b % 2 ^ suc k)
 low-agree-mod k a b =
     let m = 2 ^ suc k in
-    same-flag (low-agree k a b) (eqb (a % m) (b % m))
+    both-ways (low-agree k a b) (eqb (a % m) (b % m))
     (λ e. eq-eqb (a % m) (b % m) (same-mod (suc k) a b (λ i l. agree-bits k a b e i (le-of-suc-le-suc l))))
     (λ e.
     bits-agree k a b (λ i l.

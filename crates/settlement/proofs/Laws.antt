@@ -127,10 +127,10 @@ module _ (r : Settlement) (passes : fault r ≡ false) where
   inside (no-rule one two) = no-clash _ (some-rule r passes) (rw (ne-eqb _ _ one, ne-eqb _ _ two))
   inside (some-station s below t) = station-inside s below t
 
-outside-fault : (r : Settlement) → Outside r → fault r ≡ true
+pub outside-fault : (r : Settlement) → Outside r → fault r ≡ true
 outside-fault r o = by-bool (fault r) (λ e. e) (λ e. absurd (inside r e o))
 
-passing : (r : Settlement) → (Outside r → ⊥) → fault r ≡ false
+pub passing : (r : Settlement) → (Outside r → ⊥) → fault r ≡ false
 passing r o = by-bool (fault r) (λ e. absurd (o (fault-outside r e))) (λ e. e)
 
 -- ---- 42 from an event

@@ -9,6 +9,7 @@
 --     Laws      what the documents say of every record
 --     Edges     the edges of the record test, computed
 --     Link      the record and the play go side by side, so demands 2 and 3 hold of the operations
+--     Voters    a look at a ballot in words, and the sets of voters beside the play
 pub mod Refusals
 pub mod Range
 pub mod Places
@@ -18,4 +19,5 @@ pub mod Link
 pub mod Stays
 pub mod Answers
 pub mod Laws
+pub mod Voters
 pub mod Edges

@@ -17,7 +17,7 @@ use Rattle.entry.specs.declared.entry.Stage.{Stage}
 use Rattle.entry.specs.declared.entry.Stage.the-variants.{Voting, Awaiting, Seeking}
 use Rattle.event.specs.declared.view.View.{View}
 use Rattle.entry.specs.Stages.{at, in-round, on-finish}
-use Rattle.entry.specs.Entries.{station-entries, ballot-entries, no-station, by-station, ballots}
+use Rattle.entry.specs.Entries.{station-entries, ballot-entries, no-station, no-ballot, by-station, ballots}
 use Rattle.event.specs.Places.{own-of, next-cursor, step-beside, beside-of, step-ballot, ballot-of, within}
 use Rattle.event.specs.Change.{number-on, own-after, ballot-after}
 use Rattle.settlement.specs.declared.record.Settlement.{Settlement}
@@ -26,6 +26,7 @@ use Rattle.settlement.specs.Fault.{fault}
 use Rattle.settlement.specs.Events.{outcome, number, effect, played}
 use Rattle.settlement.proofs.Refusals.{refused-outcome, accepted-outcome}
 use Rattle.settlement.specs.Look.{look-tests}
+use Rattle.settlement.specs.Tally.{tally-tests}
 use Rattle.settlement.proofs.Range.{few-stations, cursor-below, round-below}
 
 -- ---- the first test
@@ -124,6 +125,14 @@ unfolding first-met
 look-place r s h =
     let passed = refused-not (fault r) 42 (refuse (no-station (r .count) s) 1 0) refl h in
     within-inside _ _ (station-inside r (passed .0) s (refused-not _ 1 0 refl (passed .1) .0))
+
+-- and a look at a ballot of one inside its array
+pub tally-place : (r : Settlement) (b : ℕ) → first-met (tally-tests r b) ≡ 0 → within ballot-entries b ≡ b
+unfolding first-met
+tally-place r b h =
+    let passed = refused-not (fault r) 42 (refuse (no-ballot (r .count) (r .rule) b) 9 0) refl h in
+    let below = not-false→true _ (refused-not (no-ballot (r .count) (r .rule) b) 9 0 refl (passed .1) .0) in
+    within-inside _ _ (lt-of-lt-of-le (ltb-true b _ below) (ballots-few (r .count) (r .rule) (few-stations r (passed .0))))
 
 abbrev pub own-place : Event → ℕ
 own-place e = within station-entries (own-of e)

@@ -57,7 +57,7 @@ module _ (r : Settlement) where
 
   -- a STEP casts a bit in that ballot, or leaves its entry
   votes-or-not : (s : ℕ) → fault r ≡ false → (g : Stage) → entry r s .stage ≡ g
-      → Votes-in (r .rule) (entry r s) (ballot-in r (step s)) ⊎ (voted (view r (step s)) g ≡ view r (step s) .ballot)
+      → Votes-in (r .rule) (entry r s) (ballot-in r (step s)) ⊎ (voted (view r (step s)) s g ≡ view r (step s) .ballot)
   unfolding voted
   votes-or-not s passes Idle e = inr refl
   votes-or-not s passes Waiting e = inr refl
@@ -76,8 +76,8 @@ module _ (r : Settlement) where
   ballots-stay passes (claim s v) i h d = same (r .ballots) 0 (ballot r 0) blank-ballot refl i d
   ballots-stay passes (deliver t s) i h d = same (r .ballots) 0 (ballot r 0) blank-ballot refl i d
   ballots-stay passes (step s) i h d =
-      ⊎-elim (λ votes. getD-set-other (r .ballots) (ballot-in r (step s)) i (voted (view r (step s)) (entry r s .stage)) d (λ q. h (subst (Votes-in (r .rule) (entry r s)) (sym q) votes)))
-      (λ stays. same (r .ballots) (ballot-in r (step s)) (voted (view r (step s)) (entry r s .stage)) blank-ballot stays i d)
+      ⊎-elim (λ votes. getD-set-other (r .ballots) (ballot-in r (step s)) i (voted (view r (step s)) s (entry r s .stage)) d (λ q. h (subst (Votes-in (r .rule) (entry r s)) (sym q) votes)))
+      (λ stays. same (r .ballots) (ballot-in r (step s)) (voted (view r (step s)) s (entry r s .stage)) blank-ballot stays i d)
       (votes-or-not s passes (entry r s .stage) refl)
   ballots-stay passes (lose s) i h d = same (r .ballots) 0 (ballot r 0) blank-ballot refl i d
   ballots-stay passes (answer b a) i h d = getD-set-other (r .ballots) b i (ballot-after (view r (answer b a)) (answer b a)) d h

@@ -15,18 +15,21 @@ use Rattle.event.specs.Examples.{same-station, same-ballot, live, lost, marks}
 use Rattle.settlement.specs.declared.record.Settlement.{Settlement}
 use Rattle.settlement.specs.declared.record.Outcome.{Outcome}
 use Rattle.settlement.specs.declared.record.Standing.{Standing}
+use Rattle.settlement.specs.declared.record.Tally.{Tally}
 use Rattle.settlement.specs.Record.{entry, ballot, with-station, with-ballot}
 use Rattle.settlement.specs.Events.{fresh, opened, played}
 use Rattle.settlement.specs.Look.{looked}
+use Rattle.settlement.specs.Tally.{tallied}
 
 -- OPEN's number, and the count and the rule of the settlement that it answers; an event's number; the whole entry of station s after an event, and of
--- ballot b; LOOK's whole answer
+-- ballot b; LOOK's whole answer, at a station and at a ballot
 pub data Row : Type 0 where
   opens : (n rule number count rule-after : ℕ) → Row
   gives : Settlement → Event → (number : ℕ) → Row
   leaves : Settlement → Event → (s : ℕ) → Station → Row
   leaves-ballot : Settlement → Event → (b : ℕ) → Ballot → Row
   shows : Settlement → (s number : ℕ) → (decided : Bool) → (claim votes : ℕ) → Row
+  tallies : Settlement → (b number zeros ones count0 count1 : ℕ) → (answered answer : Bool) → Row
 
 abbrev same-outcome : Outcome → (number count rule : ℕ) → Bool
 same-outcome o k n rule = eqb (o .number) k && eqb (o .settlement .count) n && eqb (o .settlement .rule) rule
@@ -34,12 +37,17 @@ same-outcome o k n rule = eqb (o .number) k && eqb (o .settlement .count) n && e
 abbrev same-standing : Standing → ℕ → Bool → ℕ → ℕ → Bool
 same-standing x k d v m = eqb (x .number) k && Bool·beq (x .decided) d && eqb (x .claim) v && eqb (x .votes) m
 
+abbrev same-tally : Tally → (number zeros ones count0 count1 : ℕ) → (answered answer : Bool) → Bool
+same-tally x k z o m n d a =
+    eqb (x .number) k && eqb (x .cast0) z && eqb (x .cast1) o && eqb (x .count0) m && eqb (x .count1) n && Bool·beq (x .answered) d && Bool·beq (x .answer) a
+
 abbrev pub edge-right : Row → Bool
 edge-right (opens n rule k n′ rule′) = same-outcome (opened n rule) k n′ rule′
 edge-right (gives r e k) = eqb (played r e .number) k
 edge-right (leaves r e s t) = same-station (entry (played r e .settlement) s) t
 edge-right (leaves-ballot r e b t) = same-ballot (ballot (played r e .settlement) b) t
 edge-right (shows r s k d v m) = same-standing (looked r s) k d v m
+edge-right (tallies r b k z o m n d a) = same-tally (tallied r b) k z o m n d a
 
 -- ---- made-up records
 
@@ -159,6 +167,35 @@ looking =
     ∷ shows (made-up 1 2 0 (live Decided 5 6 0 31 9 4294967295)) 0 0 true 4294967295 64 ∷ shows (made-up 1 2 0 (live Decided 5 6 0 0 9 0)) 0 0 true 0 2
     ∷ []
 
+-- ---- LOOK at a ballot (document 02, A.2)
+
+-- a record of n stations whose ballot b is made up
+abbrev with-votes : (n rule b : ℕ) → Ballot → Settlement
+with-votes n rule b t = with-ballot b t (fresh n rule)
+
+abbrev looking-at-ballots : List Row
+looking-at-ballots =
+    -- "It refuses with 42, then 9, and then gives empty sets, counts 0 and no answer"
+    tallies (with-votes 33 1 0 (marks 4 9 true true)) 0 42 0 0 0 0 false false ∷ tallies (with-votes 3 0 0 (marks 4 9 true true)) 255 42 0 0 0 0 false false
+    ∷ tallies (at-ballot 3 2 2 (entry-at Waiting 3 0) 0 (marks 4 9 true true)) 64 42 0 0 0 0 false false
+    ∷ tallies (with-votes 0 1 0 (marks 4 9 true true)) 0 9 0 0 0 0 false false ∷ tallies (with-votes 0 2 0 (marks 4 9 true true)) 0 9 0 0 0 0 false false
+    ∷ tallies (with-votes 1 1 0 (marks 4 9 true true)) 0 9 0 0 0 0 false false ∷ tallies (with-votes 32 1 5 (marks 4 9 true true)) 5 9 0 0 0 0 false false
+    ∷ tallies (with-votes 2 1 1 (marks 4 9 true true)) 1 9 0 0 0 0 false false ∷ tallies (fresh 32 2) 64 9 0 0 0 0 false false
+    ∷ tallies (with-votes 1 2 0 (marks 4 9 true true)) 255 9 0 0 0 0 false false
+    -- "answers both sets, how many stations are in each, and the answer if there is one"; a bit beside no answer is none
+    ∷ tallies (fresh 2 1) 0 0 0 0 0 0 false false
+    ∷ tallies (with-votes 32 1 4 (marks 4 9 false false)) 4 0 4 9 1 2 false false ∷ tallies (with-votes 32 1 4 (marks 4 9 false true)) 4 0 4 9 1 2 false false
+    ∷ tallies (with-votes 32 2 63 (marks 9 4 true true)) 63 0 9 4 2 1 true true ∷ tallies (with-votes 32 2 63 (marks 9 4 true false)) 63 0 9 4 2 1 true false
+    -- made up: stations from n on, sets that meet, an answer that nobody cast, every station
+    ∷ tallies (with-votes 1 2 0 (marks 2147483648 6 false false)) 0 0 2147483648 6 1 2 false false
+    ∷ tallies (with-votes 2 1 0 (marks 3 3 true true)) 0 0 3 3 2 2 true true ∷ tallies (with-votes 2 1 0 (marks 0 0 true true)) 0 0 0 0 0 0 true true
+    ∷ tallies (with-votes 32 2 1 (marks 4294967295 0 true false)) 1 0 4294967295 0 32 0 true false
+    ∷ tallies (with-votes 32 2 1 (marks 0 4294967295 true true)) 1 0 0 4294967295 0 32 true true
+    -- another ballot's sets, and a lost voter's
+    ∷ tallies (with-votes 32 2 1 (marks 4 9 true true)) 2 0 0 0 0 0 false false
+    ∷ tallies (at-ballot 4 1 2 (lost Awaiting 5 6 3 1 9 11) 1 (marks 4 8 false false)) 1 0 4 8 1 1 false false
+    ∷ []
+
 -- ---- whole entries after an event: "what a step does not name stays"
 
 abbrev entries-after : List Row
@@ -181,15 +218,15 @@ entries-after =
     ∷ leaves (made-up 1 2 0 (live Waiting 5 6 0 3 9 11)) (step 0) 0 (live Voting 5 6 0 3 9 11)
     -- STEP, voting: bit 2 of 4 in ballot 2, bit 2 of the claim of 4 in ballot 4
     ∷ leaves (made-up 32 1 31 (live Voting 5 6 4 2 9 11)) (step 31) 31 (live Awaiting 5 6 4 2 9 11)
-    ∷ leaves-ballot (at-ballot 32 1 31 (live Voting 5 6 4 2 9 11) 2 (marks true false false true)) (step 31) 2 (marks true true false true)
+    ∷ leaves-ballot (at-ballot 32 1 31 (live Voting 5 6 4 2 9 11) 2 (marks 4 0 false true)) (step 31) 2 (marks 4 2147483648 false true)
     ∷ leaves (beside 32 2 31 (live Voting 5 6 4 2 9 11) 4 (live Waiting 0 3 0 0 0 0)) (step 31) 31 (live Awaiting 5 6 4 2 9 11)
-    ∷ leaves-ballot (beside 32 2 31 (live Voting 5 6 4 2 9 11) 4 (live Waiting 0 3 0 0 0 0)) (step 31) 4 (marks true false false false)
-    ∷ leaves-ballot (made-up 1 2 0 (live Voting 5 4294967295 0 31 9 11)) (step 0) 62 (marks false true false false)
+    ∷ leaves-ballot (beside 32 2 31 (live Voting 5 6 4 2 9 11) 4 (live Waiting 0 3 0 0 0 0)) (step 31) 4 (marks 2147483648 0 false false)
+    ∷ leaves-ballot (made-up 1 2 0 (live Voting 5 4294967295 0 31 9 11)) (step 0) 62 (marks 0 1 false false)
     -- STEP, awaiting: the answer becomes bit 2, or bit 3, of 9
-    ∷ leaves (at-ballot 32 1 31 (live Awaiting 5 6 4 2 9 11) 2 (marks true true true true)) (step 31) 31 (live Seeking 5 6 4 2 13 11)
-    ∷ leaves (at-ballot 32 1 31 (live Awaiting 5 6 4 3 9 11) 3 (marks true true true false)) (step 31) 31 (live Seeking 5 6 4 3 1 11)
-    ∷ leaves (at-ballot 1 2 0 (live Awaiting 5 6 0 2 9 11) 4 (marks false true true true)) (step 0) 0 (live Seeking 5 6 0 2 13 11)
-    ∷ leaves-ballot (at-ballot 1 2 0 (live Awaiting 5 6 0 2 9 11) 4 (marks false true true true)) (step 0) 4 (marks false true true true)
+    ∷ leaves (at-ballot 32 1 31 (live Awaiting 5 6 4 2 9 11) 2 (marks 4 8 true true)) (step 31) 31 (live Seeking 5 6 4 2 13 11)
+    ∷ leaves (at-ballot 32 1 31 (live Awaiting 5 6 4 3 9 11) 3 (marks 4 8 true false)) (step 31) 31 (live Seeking 5 6 4 3 1 11)
+    ∷ leaves (at-ballot 1 2 0 (live Awaiting 5 6 0 2 9 11) 4 (marks 0 8 true true)) (step 0) 0 (live Seeking 5 6 0 2 13 11)
+    ∷ leaves-ballot (at-ballot 1 2 0 (live Awaiting 5 6 0 2 9 11) 4 (marks 0 8 true true)) (step 0) 4 (marks 0 8 true true)
     -- STEP, seeking: 5 is not held; held, and 9 is 5 in bit 0, 5 in all five bits, or its claim in bits 0 and 1
     ∷ leaves (made-up 32 1 31 (live Seeking 5 6 4 0 9 11)) (step 31) 31 (live Seeking 5 6 5 0 9 11)
     ∷ leaves (made-up 32 2 31 (live Seeking 5 6 4 0 9 11)) (step 31) 31 (live Seeking 5 6 5 0 9 11)
@@ -202,47 +239,51 @@ entries-after =
     ∷ leaves (made-up 1 2 0 (live Seeking 5 6 0 1 10 11)) (step 0) 0 (live FinishVoting 5 6 0 1 10 11)
     -- STEP, the finish ballot 2k + 1
     ∷ leaves (made-up 32 2 31 (live FinishVoting 5 6 4 3 9 11)) (step 31) 31 (live FinishAwaiting 5 6 4 3 9 11)
-    ∷ leaves-ballot (beside 32 2 31 (live FinishVoting 5 6 4 3 9 11) 4 (live Waiting 0 9 0 0 0 0)) (step 31) 7 (marks false true false false)
-    ∷ leaves-ballot (beside 32 2 31 (live FinishVoting 5 6 4 3 9 11) 4 (live Waiting 0 25 0 0 0 0)) (step 31) 7 (marks true false false false)
-    ∷ leaves (at-ballot 32 2 31 (live FinishAwaiting 5 6 4 3 9 11) 7 (marks true true true true)) (step 31) 31 (live Decided 5 6 4 3 9 9)
-    ∷ leaves (at-ballot 32 2 31 (live FinishAwaiting 5 6 4 3 9 11) 7 (marks true true true false)) (step 31) 31 (live Voting 5 6 4 4 9 11)
-    ∷ leaves (at-ballot 1 2 0 (live FinishAwaiting 5 6 0 31 9 11) 63 (marks true true true true)) (step 0) 0 (live Decided 5 6 0 31 9 9)
+    ∷ leaves-ballot (beside 32 2 31 (live FinishVoting 5 6 4 3 9 11) 4 (live Waiting 0 9 0 0 0 0)) (step 31) 7 (marks 0 2147483648 false false)
+    ∷ leaves-ballot (beside 32 2 31 (live FinishVoting 5 6 4 3 9 11) 4 (live Waiting 0 25 0 0 0 0)) (step 31) 7 (marks 2147483648 0 false false)
+    ∷ leaves (at-ballot 32 2 31 (live FinishAwaiting 5 6 4 3 9 11) 7 (marks 4 8 true true)) (step 31) 31 (live Decided 5 6 4 3 9 9)
+    ∷ leaves (at-ballot 32 2 31 (live FinishAwaiting 5 6 4 3 9 11) 7 (marks 4 8 true false)) (step 31) 31 (live Voting 5 6 4 4 9 11)
+    ∷ leaves (at-ballot 1 2 0 (live FinishAwaiting 5 6 0 31 9 11) 63 (marks 4 8 true true)) (step 0) 0 (live Decided 5 6 0 31 9 9)
     -- "Taking answer 0 from ballot 63"
-    ∷ gives (at-ballot 1 2 0 (live FinishAwaiting 5 6 0 31 9 11) 63 (marks true true false false)) (step 0) 8
-    ∷ gives (at-ballot 1 2 0 (live FinishAwaiting 5 6 0 31 9 11) 63 (marks true true true false)) (step 0) 42
-    ∷ gives (at-ballot 1 2 0 (live FinishAwaiting 5 6 0 31 9 11) 63 (marks true true true true)) (step 0) 0
-    ∷ leaves (at-ballot 1 2 0 (live FinishAwaiting 5 6 0 31 9 11) 63 (marks true true true false)) (step 0) 0 (live FinishAwaiting 5 6 0 31 9 11)
+    ∷ gives (at-ballot 1 2 0 (live FinishAwaiting 5 6 0 31 9 11) 63 (marks 4 8 false false)) (step 0) 8
+    ∷ gives (at-ballot 1 2 0 (live FinishAwaiting 5 6 0 31 9 11) 63 (marks 4 8 true false)) (step 0) 42
+    ∷ gives (at-ballot 1 2 0 (live FinishAwaiting 5 6 0 31 9 11) 63 (marks 4 8 true true)) (step 0) 0
+    ∷ leaves (at-ballot 1 2 0 (live FinishAwaiting 5 6 0 31 9 11) 63 (marks 4 8 true false)) (step 0) 0 (live FinishAwaiting 5 6 0 31 9 11)
     -- ANSWER
-    ∷ leaves-ballot (at-ballot 32 1 0 (live Awaiting 5 6 4 3 9 11) 4 (marks true false false true)) (answer 4 0) 4 (marks true false true false)
-    ∷ leaves (at-ballot 32 1 0 (live Awaiting 5 6 4 3 9 11) 4 (marks true false false true)) (answer 4 0) 0 (live Awaiting 5 6 4 3 9 11)
-    ∷ leaves-ballot (at-ballot 32 2 0 (live Awaiting 5 6 4 3 9 11) 63 (marks true true false false)) (answer 63 1) 63 (marks true true true true)
-    ∷ leaves-ballot (at-ballot 1 2 0 (lost Awaiting 5 6 0 3 9 11) 0 (marks false true false false)) (answer 0 1) 0 (marks false true true true)
+    ∷ leaves-ballot (at-ballot 32 1 0 (live Awaiting 5 6 4 3 9 11) 4 (marks 4 0 false true)) (answer 4 0) 4 (marks 4 0 true false)
+    ∷ leaves (at-ballot 32 1 0 (live Awaiting 5 6 4 3 9 11) 4 (marks 4 0 false true)) (answer 4 0) 0 (live Awaiting 5 6 4 3 9 11)
+    ∷ leaves-ballot (at-ballot 32 2 0 (live Awaiting 5 6 4 3 9 11) 63 (marks 4 8 false false)) (answer 63 1) 63 (marks 4 8 true true)
+    ∷ leaves-ballot (at-ballot 1 2 0 (lost Awaiting 5 6 0 3 9 11) 0 (marks 0 8 false false)) (answer 0 1) 0 (marks 0 8 true true)
     -- the bit that stands again: 0 and nothing changes, though nobody cast it; the other bit: 11, though somebody did
-    ∷ gives (at-ballot 32 1 0 (live Awaiting 5 6 4 3 9 11) 4 (marks true false true false)) (answer 4 0) 0
-    ∷ leaves-ballot (at-ballot 32 1 0 (live Awaiting 5 6 4 3 9 11) 4 (marks true false true false)) (answer 4 0) 4 (marks true false true false)
-    ∷ leaves (at-ballot 32 1 0 (live Awaiting 5 6 4 3 9 11) 4 (marks true false true false)) (answer 4 0) 0 (live Awaiting 5 6 4 3 9 11)
-    ∷ gives (at-ballot 32 2 0 (lost Idle 5 6 4 3 9 11) 63 (marks false false true true)) (answer 63 1) 0
-    ∷ leaves-ballot (at-ballot 32 2 0 (lost Idle 5 6 4 3 9 11) 63 (marks false false true true)) (answer 63 1) 63 (marks false false true true)
-    ∷ gives (at-ballot 32 2 0 (live Idle 5 6 4 3 9 11) 63 (marks false false true false)) (answer 63 0) 0
-    ∷ leaves-ballot (at-ballot 32 2 0 (live Idle 5 6 4 3 9 11) 63 (marks false false true false)) (answer 63 0) 63 (marks false false true false)
-    ∷ gives (at-ballot 32 1 0 (live Idle 5 6 4 3 9 11) 4 (marks true true true false)) (answer 4 1) 11
-    ∷ gives (at-ballot 32 2 0 (live Idle 5 6 4 3 9 11) 63 (marks false false true true)) (answer 63 0) 11
-    ∷ leaves-ballot (at-ballot 32 2 0 (live Idle 5 6 4 3 9 11) 63 (marks false false true true)) (answer 63 0) 63 (marks false false true true)
-    ∷ gives (at-ballot 3 1 2 (live Decided 5 6 3 1 9 11) 0 (marks true true true true)) (answer 0 1) 42
-    ∷ gives (at-ballot 3 2 2 (live Decided 5 6 3 1 9 11) 0 (marks true true true true)) (answer 0 0) 42
+    ∷ gives (at-ballot 32 1 0 (live Awaiting 5 6 4 3 9 11) 4 (marks 4 0 true false)) (answer 4 0) 0
+    ∷ leaves-ballot (at-ballot 32 1 0 (live Awaiting 5 6 4 3 9 11) 4 (marks 4 0 true false)) (answer 4 0) 4 (marks 4 0 true false)
+    ∷ leaves (at-ballot 32 1 0 (live Awaiting 5 6 4 3 9 11) 4 (marks 4 0 true false)) (answer 4 0) 0 (live Awaiting 5 6 4 3 9 11)
+    ∷ gives (at-ballot 32 2 0 (lost Idle 5 6 4 3 9 11) 63 (marks 0 0 true true)) (answer 63 1) 0
+    ∷ leaves-ballot (at-ballot 32 2 0 (lost Idle 5 6 4 3 9 11) 63 (marks 0 0 true true)) (answer 63 1) 63 (marks 0 0 true true)
+    ∷ gives (at-ballot 32 2 0 (live Idle 5 6 4 3 9 11) 63 (marks 0 0 true false)) (answer 63 0) 0
+    ∷ leaves-ballot (at-ballot 32 2 0 (live Idle 5 6 4 3 9 11) 63 (marks 0 0 true false)) (answer 63 0) 63 (marks 0 0 true false)
+    ∷ gives (at-ballot 32 1 0 (live Idle 5 6 4 3 9 11) 4 (marks 4 8 true false)) (answer 4 1) 11
+    ∷ gives (at-ballot 32 2 0 (live Idle 5 6 4 3 9 11) 63 (marks 0 0 true true)) (answer 63 0) 11
+    ∷ leaves-ballot (at-ballot 32 2 0 (live Idle 5 6 4 3 9 11) 63 (marks 0 0 true true)) (answer 63 0) 63 (marks 0 0 true true)
+    ∷ gives (at-ballot 3 1 2 (live Decided 5 6 3 1 9 11) 0 (marks 4 8 true true)) (answer 0 1) 42
+    ∷ gives (at-ballot 3 2 2 (live Decided 5 6 3 1 9 11) 0 (marks 4 8 true true)) (answer 0 0) 42
+    -- LOSE of a voter, and a vote beside other voters: "A vote counts though its voter is lost later"
+    ∷ leaves-ballot (at-ballot 4 1 2 (live Awaiting 5 6 3 1 9 11) 1 (marks 4 8 false false)) (lose 2) 1 (marks 4 8 false false)
+    ∷ leaves-ballot (at-ballot 4 1 2 (live Voting 5 6 3 1 9 11) 1 (marks 8 1 true false)) (step 2) 1 (marks 8 5 true false)
+    ∷ leaves-ballot (at-ballot 4 1 2 (live Voting 5 6 1 1 9 11) 1 (marks 8 1 true false)) (step 2) 1 (marks 12 1 true false)
     -- the other entries: a station beside, one from n on, and the sender; ballot 0, and a ballot that is not voted in
     ∷ leaves (made-up 3 2 1 (live Waiting 5 6 2 3 9 11)) (lose 0) 1 (live Waiting 5 6 2 3 9 11)
     ∷ leaves (made-up 2 1 31 (live Idle 5 6 4 3 9 11)) (claim 0 7) 31 (live Idle 5 6 4 3 9 11)
     ∷ leaves (beside 32 1 0 (live Seeking 5 6 4 3 9 11) 31 (live Waiting 5 8 4 3 9 11)) (deliver 31 0) 31 (live Waiting 5 8 4 3 9 11)
-    ∷ leaves-ballot (at-ballot 32 1 31 (live Voting 5 6 4 2 9 11) 0 (marks true false true false)) (step 31) 0 (marks true false true false)
-    ∷ leaves-ballot (at-ballot 32 2 31 (live Seeking 5 6 4 2 9 11) 4 (marks true false true false)) (step 31) 4 (marks true false true false)
-    ∷ leaves-ballot (at-ballot 1 2 0 (live Idle 5 6 0 2 9 11) 0 (marks true false true false)) (claim 0 7) 0 (marks true false true false)
+    ∷ leaves-ballot (at-ballot 32 1 31 (live Voting 5 6 4 2 9 11) 0 (marks 4 0 true false)) (step 31) 0 (marks 4 0 true false)
+    ∷ leaves-ballot (at-ballot 32 2 31 (live Seeking 5 6 4 2 9 11) 4 (marks 4 0 true false)) (step 31) 4 (marks 4 0 true false)
+    ∷ leaves-ballot (at-ballot 1 2 0 (live Idle 5 6 0 2 9 11) 0 (marks 4 0 true false)) (claim 0 7) 0 (marks 4 0 true false)
     -- "A record without stations has no ballots under either rule"; a lone station by station has none
     ∷ gives (fresh 0 1) (answer 0 0) 9 ∷ gives (fresh 0 2) (answer 0 0) 9 ∷ gives (fresh 1 1) (answer 0 0) 9 ∷ gives (fresh 1 2) (answer 63 0) 12
     ∷ []
 
 abbrev pub edges : List Row
-edges = opening ++ record-test ++ test-first ++ looking ++ entries-after
+edges = opening ++ record-test ++ test-first ++ looking ++ looking-at-ballots ++ entries-after
 
 -- ---- rows that are wrong in one number or mark: each is told
 
@@ -250,7 +291,7 @@ abbrev idle-31 : Settlement
 idle-31 = made-up 32 1 31 (live Idle 5 6 4 3 9 11)
 
 abbrev cast-1 : Settlement
-cast-1 = at-ballot 1 2 0 (live Awaiting 5 6 0 3 9 11) 0 (marks false true false false)
+cast-1 = at-ballot 1 2 0 (live Awaiting 5 6 0 3 9 11) 0 (marks 0 8 false false)
 
 abbrev decided-31 : Settlement
 decided-31 = made-up 32 2 31 (live Decided 5 6 4 3 9 11)
@@ -262,9 +303,12 @@ wrong =
     ∷ leaves idle-31 (lose 31) 31 (lost Idle 4 6 4 3 9 11) ∷ leaves idle-31 (lose 31) 31 (lost Idle 5 7 4 3 9 11)
     ∷ leaves idle-31 (lose 31) 31 (lost Idle 5 6 5 3 9 11) ∷ leaves idle-31 (lose 31) 31 (lost Idle 5 6 4 2 9 11)
     ∷ leaves idle-31 (lose 31) 31 (lost Idle 5 6 4 3 8 11) ∷ leaves idle-31 (lose 31) 31 (lost Idle 5 6 4 3 9 12)
-    ∷ leaves-ballot cast-1 (answer 0 1) 0 (marks true true true true) ∷ leaves-ballot cast-1 (answer 0 1) 0 (marks false false true true)
-    ∷ leaves-ballot cast-1 (answer 0 1) 0 (marks false true false true) ∷ leaves-ballot cast-1 (answer 0 1) 0 (marks false true true false)
+    ∷ leaves-ballot cast-1 (answer 0 1) 0 (marks 4 8 true true) ∷ leaves-ballot cast-1 (answer 0 1) 0 (marks 0 0 true true)
+    ∷ leaves-ballot cast-1 (answer 0 1) 0 (marks 0 8 false true) ∷ leaves-ballot cast-1 (answer 0 1) 0 (marks 0 8 true false)
     ∷ shows decided-31 31 1 true 11 8 ∷ shows decided-31 31 0 false 11 8 ∷ shows decided-31 31 0 true 6 8 ∷ shows decided-31 31 0 true 11 7
+    ∷ tallies cast-1 0 1 0 8 0 1 false false ∷ tallies cast-1 0 0 8 0 1 0 false false ∷ tallies cast-1 0 0 1 8 0 1 false false
+    ∷ tallies cast-1 0 0 0 8 1 1 false false ∷ tallies cast-1 0 0 0 8 0 2 false false ∷ tallies cast-1 0 0 0 8 0 1 true false
+    ∷ tallies cast-1 0 0 0 8 0 1 false true
     ∷ []
 
 abbrev pub not-right : Row → Bool

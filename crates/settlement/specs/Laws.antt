@@ -101,7 +101,7 @@ starting n rule =
       count = n;
       rule = rule;
       stations = replicate 32 (record { stage = Idle; lost = false; held = 0; claim = 0; cursor = 0; round = 0; word = 0; decision = 0 });
-      ballots = replicate 64 (record { cast0 = false; cast1 = false; answered = false; answer = false });
+      ballots = replicate 64 (record { cast0 = 0; cast1 = 0; answered = false; answer = false });
     }
 
 -- "A refusal gives undecided, 0, 0."

@@ -3,17 +3,21 @@
 --     Fault     the record test, 42
 --     Events    OPEN and the five events, whole
 --     Look      LOOK, whole
+--     Tally     LOOK at a ballot, whole
 --     Demand1   demand 1, as one law over every event and every record
 --     Link      the records that a list of events leads to, beside the play
 --     Demands   demands 2 and 3 about the operations, over whole lists
 --     Laws      what the documents say of every record, in their words and numbers
+--     Voters    who voted which way: a look at a ballot in words, and the sets over whole lists
 --     Edges     the edges of the record test, as one list
 pub mod Record
 pub mod Fault
 pub mod Events
 pub mod Look
+pub mod Tally
 pub mod Demand1
 pub mod Link
 pub mod Demands
 pub mod Laws
+pub mod Voters
 pub mod Edges
