@@ -1,10 +1,11 @@
 // One command of a script, by its tag: a field of a log as document 01 has it (a note is written out as it stands), or one of these letters.
 //     N  n, rule     the head, made up              H             shows the head
 //     S  s, ..       a station's entry, made up     E  s          shows a station's entry
-//     B  b, marks    a ballot's entry, made up      V  b          shows a ballot's entry
-//     K  s           LOOK                           b  bytes      BODY
-//     r  limit, log  RUN                            d  bytes      READ
-//     t  taken, log  REST                           l  claim      its length
+//     B  b, ..       a ballot's entry, made up      V  b          shows a ballot's entry
+//     K  s           LOOK                           L  b          LOOK at a ballot
+//     r  limit, log  RUN                            b  bytes      BODY
+//     t  taken, log  REST                           d  bytes      READ
+//                                                   l  claim      its length
 use crate::made_up;
 use crate::parts;
 use crate::print;
@@ -20,6 +21,7 @@ use settlement::record::Settlement;
 fn asks(tag: u8, first: u8, r: Settlement) {
     match tag {
         b'K' => settled::looks(first, r),
+        b'L' => settled::looks_at_ballot(first, r),
         b'H' => show::head(r),
         b'E' => show::station(first, r),
         b'V' => show::ballot(first, r),
@@ -45,7 +47,7 @@ fn changes(tag: u8, first: u8, second: u8, body: &[u8], r: Settlement) -> Settle
         0x01 => settled::opens(first, second, r),
         b'N' => made_up::with_head(first, second, r),
         b'S' => made_up::with_station(first, body, r),
-        b'B' => made_up::with_ballot(first, second, r),
+        b'B' => made_up::with_ballot(first, body, r),
         b'r' => parts::runs(body),
         0x10..=0x14 => settled::plays(settled::event_of(tag, first, second, word(body, 1)), r),
         _ => r,

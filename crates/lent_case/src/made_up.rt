@@ -50,19 +50,21 @@ pub(crate) fn with_station(s: u8, body: &[u8], r: Settlement) -> Settlement {
     next
 }
 
-// The marks are the low bits of one number: 0 was cast, 1 was cast, it is answered, and the answer.
-fn ballot_of(marks: u8) -> Ballot {
+// Ballot, marks; then the stations that cast 0 and those that cast 1, four bytes each. The marks are the low bits of one number: whether it is
+// answered, and the answer.
+fn ballot_in(body: &[u8]) -> Ballot {
+    let marks = byte(body, 1);
     Ballot {
-        cast0: marks % 2 == 1,
-        cast1: marks / 2 % 2 == 1,
-        answered: marks / 4 % 2 == 1,
-        answer: marks / 8 % 2 == 1,
+        cast0: word(body, 2),
+        cast1: word(body, 6),
+        answered: marks % 2 == 1,
+        answer: marks / 2 % 2 == 1,
     }
 }
 
-pub(crate) fn with_ballot(b: u8, marks: u8, r: Settlement) -> Settlement {
+pub(crate) fn with_ballot(b: u8, body: &[u8], r: Settlement) -> Settlement {
     let i = (b % 64) as usize;
-    let t = ballot_of(marks);
+    let t = ballot_in(body);
     let mut next = r;
     next.ballots[i] = t;
     next

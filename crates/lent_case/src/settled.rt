@@ -1,4 +1,5 @@
-// OPEN, the five events and LOOK.
+// OPEN, the five events, LOOK, and LOOK at a ballot.
+use crate::lending::look_ballot_through;
 use crate::lending::look_through;
 use crate::lending::open_through;
 use crate::print;
@@ -7,6 +8,7 @@ use lent::through::play_through;
 use settlement::record::Outcome;
 use settlement::record::Settlement;
 use settlement::record::Standing;
+use settlement::record::Tally;
 
 // The number is written, and the settlement goes on.
 fn goes_on(a: Outcome) -> Settlement {
@@ -49,4 +51,19 @@ fn standing(a: Standing) {
 // LOOK s: its number, whether decided, the claim and the votes.
 pub(crate) fn looks(s: u8, r: Settlement) {
     standing(look_through(r, s));
+}
+
+fn tally(a: Tally) {
+    print::small(a.number);
+    print::claim(a.cast0);
+    print::claim(a.cast1);
+    print::small(a.count0);
+    print::small(a.count1);
+    print::mark(a.answered);
+    print::mark(a.answer);
+}
+
+// LOOK at ballot b: its number, both sets as masks, how many are in each, whether it is answered, and the answer.
+pub(crate) fn looks_at_ballot(b: u8, r: Settlement) {
+    tally(look_ballot_through(r, b));
 }

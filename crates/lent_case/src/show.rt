@@ -29,10 +29,10 @@ pub(crate) fn station(s: u8, r: Settlement) {
     station_entry(r.stations[i]);
 }
 
-// Whether 0 was cast, 1 was cast, it is answered, and the answer.
+// The stations that cast 0 and those that cast 1, as masks, whether it is answered, and the answer.
 fn ballot_entry(t: Ballot) {
-    print::mark(t.cast0);
-    print::mark(t.cast1);
+    print::claim(t.cast0);
+    print::claim(t.cast1);
     print::mark(t.answered);
     print::mark(t.answer);
 }
