@@ -18,8 +18,10 @@ set-again [] i d = refl
 set-again (x ∷ xs) zero d = refl
 set-again (x ∷ xs) (suc i) d = ap (λ (q : List _). x ∷ q) (set-again xs i d)
 
--- what stands where an entry was stored: that entry, or past the end what stood there
-pub set-either : {A : Type 0} (C : A → Type 0) (l : List A) (i : ℕ) (x d : A) → C x → C (getD l i d) → C (getD (set l i x) i d)
-set-either C [] i x d new old = old
-set-either C (y ∷ ys) zero x d new old = new
-set-either C (y ∷ ys) (suc i) x d new old = set-either C ys i x d new old
+-- what holds of an entry that is stored, and of those that stood there, holds of each after it
+pub set-keeps : {A : Type 0} (C : A → Type 0) (l : List A) (i : ℕ) (x d : A) (j : ℕ) → C x → C (getD l j d) → C (getD (set l i x) j d)
+set-keeps C [] i x d j new old = old
+set-keeps C (y ∷ ys) zero x d zero new old = new
+set-keeps C (y ∷ ys) zero x d (suc j) new old = old
+set-keeps C (y ∷ ys) (suc i) x d zero new old = old
+set-keeps C (y ∷ ys) (suc i) x d (suc j) new old = set-keeps C ys i x d j new old

@@ -1,5 +1,5 @@
 -- An entry and its bytes, both ways. Assumes nothing.
-use Prim.Native.Nat.{ℕ, zero, suc, _+_, _≤_, _<_}
+use Prim.Native.Nat.{ℕ, zero, suc, _≤_}
 use mathlib.Core.Path.{_≡_, refl, sym, _∙_}
 use mathlib.Core.Bool.{Bool, true, false}
 use mathlib.Core.List.{List, [], _∷_, _++_}
@@ -15,9 +15,8 @@ use Rattle.entry.specs.declared.entry.Stage.the-variants.{Idle, Waiting, Voting
 use Rattle.entry.specs.declared.entry.Station.{Station}
 use Rattle.entry.specs.declared.entry.Ballot.{Ballot}
 use Rattle.entry.specs.Stages.{rank}
-use Rattle.image.specs.Entries.{stage-from, mark-byte, mark-from, station-bytes, station-from, ballot-bytes, ballot-from, no-mark, station-unread}
-use Rattle.image.specs.Lists.{flat}
-use Rattle.image.specs.Image.{Station-fits}
+use Rattle.image.specs.Entries.{stage-from, mark-byte, mark-from, station-bytes, station-from, ballot-bytes, ballot-from, no-mark, station-unread, ballot-unread}
+use Rattle.image.specs.Image.{Station-fits, Ballot-fits}
 use Rattle.image.proofs.Lists.{first-bytes}
 
 -- ---- a stage, a mark
@@ -106,30 +105,22 @@ station-reads t rest = rw (stage-exists (t .stage), mark-exists (t .lost))
 
 -- ---- a ballot
 
-pub ballots-read : (l : List Ballot) (i : ℕ) → no-mark (byte (flat ballot-bytes l) i) ≡ false
-unfolding flat ballot-bytes
-ballots-read [] i = refl
-ballots-read (t ∷ l) zero = mark-exists (t .cast0)
-ballots-read (t ∷ l) (suc zero) = mark-exists (t .cast1)
-ballots-read (t ∷ l) (suc (suc zero)) = mark-exists (t .answered)
-ballots-read (t ∷ l) (suc (suc (suc zero))) = mark-exists (t .answer)
-ballots-read (t ∷ l) (suc (suc (suc (suc i)))) = ballots-read l i
+pub ballot-reads : (t : Ballot) (rest : List ℕ) → ballot-unread (ballot-bytes t ++ rest) ≡ false
+unfolding ballot-bytes
+ballot-reads t rest = rw (mark-exists (t .answered), mark-exists (t .answer))
 
-pub ballot-wide : (t : Ballot) → length (ballot-bytes t) ≡ 4
+pub ballot-wide : (t : Ballot) → length (ballot-bytes t) ≡ 10
 unfolding ballot-bytes
 ballot-wide t = refl
 
-pub ballot-again : (t : Ballot) (rest : List ℕ) → ballot-from (ballot-bytes t ++ rest) ≡ t
+pub ballot-again : (t : Ballot) (rest : List ℕ) → Ballot-fits t → ballot-from (ballot-bytes t ++ rest) ≡ t
 unfolding ballot-bytes ballot-from
-ballot-again t rest = rw (mark-again (t .cast0), mark-again (t .cast1), mark-again (t .answered), mark-again (t .answer))
+ballot-again t rest fits = rw (four-again (t .cast0) (fits .cast0), four-again (t .cast1) (fits .cast1), mark-again (t .answered), mark-again (t .answer))
 
-pub ballot-there : (b : List ℕ) → 4 ≤ length b → ((i : ℕ) → i < 4 → no-mark (byte b i) ≡ false) → ballot-bytes (ballot-from b) ≡ take 4 b
+pub ballot-there : (b : List ℕ) → 10 ≤ length b → In-bytes b → ballot-unread b ≡ false → ballot-bytes (ballot-from b) ≡ take 10 b
 unfolding ballot-bytes ballot-from
-ballot-there b long marks =
-    rw (
-      first-bytes 4 b long,
-      byte-again (byte b 0) (small (byte b 0) (marks 0 (omega arith))),
-      byte-again (byte b 1) (small (byte b 1) (marks 1 (omega arith))),
-      byte-again (byte b 2) (small (byte b 2) (marks 2 (omega arith))),
-      byte-again (byte b 3) (small (byte b 3) (marks 3 (omega arith))),
-    )
+ballot-there b long in-bytes read =
+    let tests = or-false _ _ read in
+    let zeros = bytes-again (byte b 0) (byte b 1) (byte b 2) (byte b 3) (in-bytes 0) (in-bytes 1) (in-bytes 2) (in-bytes 3) in
+    let ones = bytes-again (byte b 4) (byte b 5) (byte b 6) (byte b 7) (in-bytes 4) (in-bytes 5) (in-bytes 6) (in-bytes 7) in
+    rw (first-bytes 10 b long, zeros .0, zeros .1, zeros .2, zeros .3, ones .0, ones .1, ones .2, ones .3, byte-again (byte b 8) (small (byte b 8) (tests .0)), byte-again (byte b 9) (small (byte b 9) (tests .1)))

@@ -23,6 +23,7 @@ bytes-shown = record {
   nothing = refl;
   short = refl;
   long = refl;
+  before = refl;
   older = refl;
   newer = refl;
   first-stage = refl;
@@ -36,4 +37,6 @@ bytes-shown = record {
   an-answer = refl;
   any-count = refl;
   any-number = refl;
+  any-voters = refl;
+  any-last-voters = refl;
 }

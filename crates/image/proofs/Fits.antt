@@ -10,7 +10,7 @@ use lib.ListN.{length, getD, set, length-set, length-replicate, getD-replicate}
 use lib.Seq.{getD-set-same, getD-set-other}
 use borrow.Author.Tests.{eqb-true, eqb-false, ltb-true, ltb-false}
 use Rattle.basics.proofs.Bools.{by-bool, cond-ind}
-use Rattle.basics.proofs.Lists.{read-past}
+use Rattle.basics.proofs.Lists.{read-past, set-keeps}
 use Rattle.bits.specs.Words.{claim-bits, word-with-bit, insert}
 use Rattle.bits.proofs.Words.{word-lt}
 use Rattle.consensus.specs.Events.{Event, claim, deliver, step, lose, answer, History, start, _▷_, Rule, rule-1, rule-2, Opening, Openable}
@@ -19,24 +19,27 @@ use Rattle.entry.specs.declared.entry.Stage.{Stage}
 use Rattle.entry.specs.declared.entry.Stage.the-variants.{Idle, Waiting, Voting, Awaiting, Seeking, FinishVoting, FinishAwaiting, Decided}
 use Rattle.entry.specs.declared.entry.Station.{Station}
 use Rattle.entry.specs.Stages.{at}
-use Rattle.entry.specs.Entries.{station-entries, by-station, blank-station, blank-ballot, moved}
+use Rattle.entry.specs.Entries.{station-entries, by-station, blank-station, blank-ballot, moved, casting}
 use Rattle.event.specs.declared.view.View.{View}
 use Rattle.event.specs.Places.{own-of, next-cursor}
-use Rattle.event.specs.Step.{next-round, at-once, started, staged, bit-taken, finish-taken, last-round, entry-after-seek, seeking-ends, sought, stepped}
-use Rattle.event.specs.Change.{own-after}
+use Rattle.event.specs.Step.{next-round, at-once, started, staged, bit-taken, finish-taken, last-round, entry-after-seek, seeking-ends, sought, stepped, bit-voted, finish-voted, voted}
+use Rattle.event.specs.Change.{own-after, ballot-after}
 use Rattle.settlement.specs.declared.record.Settlement.{Settlement}
 use Rattle.settlement.specs.declared.record.Outcome.{Outcome}
-use Rattle.settlement.specs.Record.{entry, beside-in, view}
+use Rattle.settlement.specs.Record.{entry, ballot, beside-in, ballot-in, view}
 use Rattle.settlement.specs.Events.{fresh, opened, effect, played}
 use Rattle.settlement.specs.Link.{rule-number, record-after}
 use Rattle.settlement.proofs.Demand1.{demand1}
 use Rattle.settlement.proofs.Laws.{laws}
-use Rattle.image.specs.Image.{Station-fits, Record-fits}
+use Rattle.image.specs.Image.{Station-fits, Ballot-fits, Record-fits}
 
 -- ---- one entry
 
 blank-fits : Station-fits blank-station
 blank-fits = record { cursor = omega arith; round = omega arith; held = omega arith; claim = omega arith; word = omega arith; decision = omega arith }
+
+no-voters-fit : Ballot-fits blank-ballot
+no-voters-fit = record { cast0 = omega arith; cast1 = omega arith }
 
 moved-fits : (g : Stage) (j k d v : ℕ) (t : Station) → Station-fits t → j < 256 → k < 256 → d < 4294967296 → v < 4294967296 → Station-fits (moved g j k d v t)
 moved-fits g j k d v t f hj hk hd hv = record { cursor = hj; round = hk; held = f .held; claim = f .claim; word = hd; decision = hv }
@@ -119,6 +122,27 @@ module _ (v : View) (n : v .count < 256) (own : Station-fits (v .own)) (beside :
       record { cursor = own .cursor; round = own .round; held = own .held; claim = own .claim; word = own .word; decision = own .decision }
   own-fits (answer b a) fit h = own
 
+-- ---- a ballot: a vote is one station more in a set
+
+module _ (v : View) (fits : Ballot-fits (v .ballot)) where
+  cast-fits : (s : ℕ) (x : Bool) → Ballot-fits (casting s x (v .ballot))
+  cast-fits s true = record { cast0 = fits .cast0; cast1 = mask-fits s (v .ballot .cast1) (fits .cast1) }
+  cast-fits s false = record { cast0 = mask-fits s (v .ballot .cast0) (fits .cast0); cast1 = fits .cast1 }
+
+  voted-fits : (s : ℕ) (g : Stage) → Ballot-fits (voted v s g)
+  unfolding voted
+  voted-fits s g =
+      cond-ind Ballot-fits (at Voting g) _ _ (λ e. cast-fits s (bit-voted v))
+      (λ e. cond-ind Ballot-fits (at FinishVoting g) _ _ (λ d. cast-fits s (finish-voted v)) (λ d. fits))
+
+  ballot-fits : (e : Event) → Ballot-fits (ballot-after v e)
+  unfolding ballot-after
+  ballot-fits (claim s c) = fits
+  ballot-fits (deliver t s) = fits
+  ballot-fits (step s) = voted-fits s (v .own .stage)
+  ballot-fits (lose s) = fits
+  ballot-fits (answer b a) = record { cast0 = fits .cast0; cast1 = fits .cast1 }
+
 -- ---- the record
 
 module _ (r : Settlement) (fits : Record-fits r) where
@@ -127,6 +151,11 @@ module _ (r : Settlement) (fits : Record-fits r) where
   entry-fits i =
       by-bool (ltb i 32) (λ e. fits .stations i (ltb-true i 32 e))
       (λ e. subst Station-fits (read-past (r .stations) blank-station 32 i (fits .station-entries) (ltb-false i 32 e)) blank-fits)
+
+  voters-fit : (i : ℕ) → Ballot-fits (ballot r i)
+  voters-fit i =
+      by-bool (ltb i 64) (λ e. fits .ballots i (ltb-true i 64 e))
+      (λ e. subst Ballot-fits (read-past (r .ballots) blank-ballot 64 i (fits .ballot-entries) (ltb-false i 64 e)) no-voters-fit)
 
   effect-fits : (e : Event) → Fitting e → Record-fits (effect r e)
   unfolding effect
@@ -137,6 +166,8 @@ module _ (r : Settlement) (fits : Record-fits r) where
         station-entries = length-set (r .stations) (own-of e) (own-after (view r e) e) ∙ fits .station-entries;
         ballot-entries = length-set (r .ballots) _ _ ∙ fits .ballot-entries;
         stations = each;
+        ballots = λ b h. set-keeps Ballot-fits (r .ballots) (ballot-in r e) (ballot-after (view r e) e) blank-ballot b
+            (ballot-fits (view r e) (voters-fit (ballot-in r e)) e) (voters-fit b);
       }
     where
       each : (s : ℕ) → s < 32 → Station-fits (getD (set (r .stations) (own-of e) (own-after (view r e) e)) s blank-station)
@@ -167,6 +198,7 @@ fresh-fits n rule h l =
       station-entries = length-replicate 32 blank-station;
       ballot-entries = length-replicate 64 blank-ballot;
       stations = λ s b. subst Station-fits (sym (getD-replicate 32 s blank-station blank-station b)) blank-fits;
+      ballots = λ b l. subst Ballot-fits (sym (getD-replicate 64 b blank-ballot blank-ballot l)) no-voters-fit;
     }
 
 opened-fits : (o : Opening) → Openable o → Record-fits (opened (o .count) (rule-number (o .rule)) .settlement)

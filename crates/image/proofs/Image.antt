@@ -23,24 +23,24 @@ use Rattle.entry.specs.Entries.{station-entries, ballot-entries, blank-station,
 use Rattle.settlement.specs.declared.record.Settlement.{Settlement}
 use Rattle.settlement.specs.Record.{entry, ballot, with-station, with-ballot}
 use Rattle.image.specs.Lists.{flat, cut}
-use Rattle.image.specs.Entries.{station-bytes, station-from, ballot-bytes, ballot-from, no-mark, station-unread}
-use Rattle.image.specs.Image.{station-at, ballot-at, image-of, record-in, unread, no-image, record-of, Station-fits, Record-fits, Round-trip, Numbers-told}
+use Rattle.image.specs.Entries.{station-bytes, station-from, ballot-bytes, ballot-from, station-unread, ballot-unread}
+use Rattle.image.specs.Image.{station-at, ballot-at, image-of, record-in, unread, no-image, record-of, Station-fits, Ballot-fits, Record-fits, Round-trip, Numbers-told}
 use Rattle.image.proofs.Lists.{over-later, over-earlier, first-bytes, length-cut, getD-cut, length-flat, flat-set, flat-at, cut-flat, flat-cut}
-use Rattle.image.proofs.Entries.{station-wide, station-again, station-there, station-reads, ballot-wide, ballot-again, ballot-there, ballots-read}
+use Rattle.image.proofs.Entries.{station-wide, station-again, station-there, station-reads, ballot-wide, ballot-again, ballot-there, ballot-reads}
 
 -- ---- bytes that are an image
 
 pub record Image (b : List ℕ) : Type 0 where
-  pub size : length b ≡ 899
-  pub first : byte b 0 ≡ 1
+  pub size : length b ≡ 1283
+  pub first : byte b 0 ≡ 2
   pub read : unread b ≡ false
 
 pub is-image : (b : List ℕ) → no-image b ≡ 0 → Image b
 unfolding no-image first-met
 is-image b e =
-    let later = refuse (not (eqb (byte b 0) 1)) 81 (refuse (unread b) 42 0) in
-    let one = refused-not (not (eqb (length b) 899)) 80 later refl e in
-    let two = refused-not (not (eqb (byte b 0) 1)) 81 (refuse (unread b) 42 0) refl (one .1) in
+    let later = refuse (not (eqb (byte b 0) 2)) 81 (refuse (unread b) 42 0) in
+    let one = refused-not (not (eqb (length b) 1283)) 80 later refl e in
+    let two = refused-not (not (eqb (byte b 0) 2)) 81 (refuse (unread b) 42 0) refl (one .1) in
     let three = refused-not (unread b) 42 0 refl (two .1) in
     record {
       size = eqb-true _ _ (not-false→true _ (one .0));
@@ -56,7 +56,7 @@ module _ (b : List ℕ) where
 
   pub ballot-in : (k : ℕ) → k < 64 → ballot (record-in b) k ≡ ballot-from (drop (ballot-at k) b)
   unfolding record-in
-  ballot-in k h = getD-cut ballot-from 4 64 k (drop 643 b) blank-ballot h ∙ ap ballot-from (drop-drop (4 * k) 643 b)
+  ballot-in k h = getD-cut ballot-from 10 64 k (drop 643 b) blank-ballot h ∙ ap ballot-from (drop-drop (10 * k) 643 b)
 
   pub stations-in : length (record-in b .stations) ≡ 32
   unfolding record-in
@@ -64,10 +64,10 @@ module _ (b : List ℕ) where
 
   pub ballots-in : length (record-in b .ballots) ≡ 64
   unfolding record-in
-  ballots-in = length-cut ballot-from 4 64 (drop 643 b)
+  ballots-in = length-cut ballot-from 10 64 (drop 643 b)
 
   module _ (image : Image b) (in-bytes : In-bytes b) where
-    tests : (any-below 32 (λ s. station-unread (drop (station-at s) b)) ≡ false) × (any-below 256 (λ i. no-mark (byte (drop 643 b) i)) ≡ false)
+    tests : (any-below 32 (λ s. station-unread (drop (station-at s) b)) ≡ false) × (any-below 64 (λ k. ballot-unread (drop (ballot-at k) b)) ≡ false)
     unfolding unread
     tests = or-false _ _ (image .read)
 
@@ -77,10 +77,11 @@ module _ (b : List ℕ) where
         rw here
         (station-there (drop (station-at s) b) (rw (length-drop, image .size) (omega arith)) (bytes-after (station-at s) b in-bytes) (any-none 32 _ (tests .0) s h))
 
-    ballot-same : (k : ℕ) → k < 64 → ballot-bytes (ballot-from (drop (4 * k) (drop 643 b))) ≡ take 4 (drop (4 * k) (drop 643 b))
+    ballot-same : (k : ℕ) → k < 64 → ballot-bytes (ballot-from (drop (10 * k) (drop 643 b))) ≡ take 10 (drop (10 * k) (drop 643 b))
     ballot-same k h =
-        let long : 4 ≤ length (drop (4 * k) (drop 643 b)) = rw (length-drop, length-drop, image .size) (omega arith) in
-        ballot-there (drop (4 * k) (drop 643 b)) long (λ i l. rw getD-drop (any-none 256 _ (tests .1) (4 * k + i) (omega arith)))
+        let here : drop (10 * k) (drop 643 b) ≡ drop (ballot-at k) b = drop-drop (10 * k) 643 b in
+        rw here
+        (ballot-there (drop (ballot-at k) b) (rw (length-drop, image .size) (omega arith)) (bytes-after (ballot-at k) b in-bytes) (any-none 64 _ (tests .1) k h))
 
     -- bytes that are an image are that of their record
     pub image-again : image-of (record-in b) ≡ b
@@ -88,13 +89,13 @@ module _ (b : List ℕ) where
     image-again =
         let head : take 3 b ≡ byte b 0 ∷ byte b 1 ∷ byte b 2 ∷ [] = first-bytes 3 b (rw (image .size) (omega arith)) in
         let stations = flat-cut station-bytes station-from 20 32 (drop 3 b) station-same in
-        let ballots = flat-cut ballot-bytes ballot-from 4 64 (drop 643 b) ballot-same in
-        let rest : take 640 (drop 3 b) ++ take 256 (drop 643 b) ≡ drop 3 b =
-        ap (λ (l : List ℕ). take 640 (drop 3 b) ++ take 256 l) (sym (drop-drop 640 3 b)) ∙ sym (take-add 640 256 (drop 3 b))
-        ∙ take-all 896 (drop 3 b) (rw (length-drop, image .size) (omega arith)) in
+        let ballots = flat-cut ballot-bytes ballot-from 10 64 (drop 643 b) ballot-same in
+        let rest : take 640 (drop 3 b) ++ take 640 (drop 643 b) ≡ drop 3 b =
+        ap (λ (l : List ℕ). take 640 (drop 3 b) ++ take 640 l) (sym (drop-drop 640 3 b)) ∙ sym (take-add 640 640 (drop 3 b))
+        ∙ take-all 1280 (drop 3 b) (rw (length-drop, image .size) (omega arith)) in
         let whole : take 3 b ++ drop 3 b ≡ b =
-        ap (λ (l : List ℕ). take 3 b ++ l) (sym (take-all 896 (drop 3 b) (rw (length-drop, image .size) (omega arith)))) ∙ sym (take-add 3 896 b)
-        ∙ take-all 899 b (rw (image .size) (omega arith)) in
+        ap (λ (l : List ℕ). take 3 b ++ l) (sym (take-all 1280 (drop 3 b) (rw (length-drop, image .size) (omega arith)))) ∙ sym (take-add 3 1280 b)
+        ∙ take-all 1283 b (rw (image .size) (omega arith)) in
         rw (stations, ballots, rest) (subst (λ (v : ℕ). v ∷ byte b 1 ∷ byte b 2 ∷ drop 3 b ≡ b) (image .first)
         (ap (λ (l : List ℕ). l ++ drop 3 b) (sym head) ∙ whole))
 
@@ -102,7 +103,7 @@ module _ (b : List ℕ) where
 
 module _ (r : Settlement) (stations : length (r .stations) ≡ 32) where
   abbrev head : List ℕ
-  head = 1 ∷ r .count ∷ r .rule ∷ []
+  head = 2 ∷ r .count ∷ r .rule ∷ []
 
   abbrev front : List ℕ
   front = flat station-bytes (r .stations)
@@ -125,20 +126,20 @@ module _ (r : Settlement) (stations : length (r .stations) ≡ 32) where
       → image-of (with-ballot k t r) ≡ over (ballot-at k) (ballot-bytes t) (image-of r)
   unfolding image-of
   ballot-stored ballots k t h =
-      let after-head : 3 + (640 + 4 * k) ≡ ballot-at k = omega arith in
-      let place : length front + 4 * k ≡ 640 + 4 * k = ap (λ (n : ℕ). n + 4 * k) front-long in
-      ap (λ (l : List ℕ). head ++ (front ++ l)) (flat-set ballot-bytes 4 ballot-wide (r .ballots) k t (rw ballots h))
-      ∙ ap (λ (l : List ℕ). head ++ l) (sym (over-later front back (4 * k) (ballot-bytes t)) ∙ ap (λ (n : ℕ). over n (ballot-bytes t) (front ++ back)) place)
-      ∙ sym (over-later head (front ++ back) (640 + 4 * k) (ballot-bytes t))
+      let after-head : 3 + (640 + 10 * k) ≡ ballot-at k = omega arith in
+      let place : length front + 10 * k ≡ 640 + 10 * k = ap (λ (n : ℕ). n + 10 * k) front-long in
+      ap (λ (l : List ℕ). head ++ (front ++ l)) (flat-set ballot-bytes 10 ballot-wide (r .ballots) k t (rw ballots h))
+      ∙ ap (λ (l : List ℕ). head ++ l) (sym (over-later front back (10 * k) (ballot-bytes t)) ∙ ap (λ (n : ℕ). over n (ballot-bytes t) (front ++ back)) place)
+      ∙ sym (over-later head (front ++ back) (640 + 10 * k) (ballot-bytes t))
       ∙ ap (λ (n : ℕ). over n (ballot-bytes t) (head ++ (front ++ back))) after-head
 
 -- ---- every record comes back from its image
 
 module _ (r : Settlement) (stations : length (r .stations) ≡ 32) (ballots : length (r .ballots) ≡ 64) where
-  back-long : length (back r stations) ≡ 256
-  back-long = length-flat ballot-bytes 4 ballot-wide (r .ballots) ∙ ap (λ (n : ℕ). 4 * n) ballots
+  back-long : length (back r stations) ≡ 640
+  back-long = length-flat ballot-bytes 10 ballot-wide (r .ballots) ∙ ap (λ (n : ℕ). 10 * n) ballots
 
-  pub image-long : length (image-of r) ≡ 899
+  pub image-long : length (image-of r) ≡ 1283
   unfolding image-of
   image-long =
       let both = length-append (front r stations) (back r stations) in
@@ -160,20 +161,20 @@ module _ (r : Settlement) (stations : length (r .stations) ≡ 32) (ballots : le
 
   pub ballot-bytes-at : (k : ℕ) → k < 64 → drop (ballot-at k) (image-of r) ≡ ballot-bytes (ballot r k) ++ drop (ballot-at (k + 1)) (image-of r)
   ballot-bytes-at k h =
-      let inside : (n : ℕ) → drop (ballot-at n) (image-of r) ≡ drop (4 * n) (back r stations) =
-      (λ n. sym (drop-drop (4 * n) 643 (image-of r)) ∙ ap (λ (q : List ℕ). drop (4 * n) q) ballots-part) in
-      rw (inside k, add-one, inside (suc k)) (flat-at ballot-bytes 4 ballot-wide (r .ballots) k blank-ballot (rw ballots h))
+      let inside : (n : ℕ) → drop (ballot-at n) (image-of r) ≡ drop (10 * n) (back r stations) =
+      (λ n. sym (drop-drop (10 * n) 643 (image-of r)) ∙ ap (λ (q : List ℕ). drop (10 * n) q) ballots-part) in
+      rw (inside k, add-one, inside (suc k)) (flat-at ballot-bytes 10 ballot-wide (r .ballots) k blank-ballot (rw ballots h))
 
   pub image-reads : unread (image-of r) ≡ false
   unfolding unread
   image-reads =
       let first : any-below 32 (λ s. station-unread (drop (station-at s) (image-of r))) ≡ false =
       none-below 32 _ (λ s h. rw (station-bytes-at s h) (station-reads (entry r s) (drop (station-at (s + 1)) (image-of r)))) in
-      let second : any-below 256 (λ i. no-mark (byte (drop 643 (image-of r)) i)) ≡ false =
-      none-below 256 _ (λ i h. rw ballots-part (ballots-read (r .ballots) i)) in
+      let second : any-below 64 (λ k. ballot-unread (drop (ballot-at k) (image-of r))) ≡ false =
+      none-below 64 _ (λ k h. rw (ballot-bytes-at k h) (ballot-reads (ballot r k) (drop (ballot-at (k + 1)) (image-of r)))) in
       rw (first, second)
 
-  begins : byte (image-of r) 0 ≡ 1
+  begins : byte (image-of r) 0 ≡ 2
   unfolding image-of
   begins = refl
 
@@ -188,10 +189,11 @@ module _ (r : Settlement) (fits : Record-fits r) where
       ∙ cut-flat station-bytes 20 station-wide station-from Station-fits station-again (r .stations) blank-station (flat ballot-bytes (r .ballots))
       (λ s h. fits .stations s (rw (fits .station-entries) at h))
 
-  ballots-again : cut ballot-from 4 64 (flat ballot-bytes (r .ballots)) ≡ r .ballots
+  ballots-again : cut ballot-from 10 64 (flat ballot-bytes (r .ballots)) ≡ r .ballots
   ballots-again =
-      ap₂ (λ (n : ℕ) (q : List ℕ). cut ballot-from 4 n q) (sym (fits .ballot-entries)) (sym (append-nil (flat ballot-bytes (r .ballots))))
-      ∙ cut-flat ballot-bytes 4 ballot-wide ballot-from (λ _. Unit {0}) (λ t rest _. ballot-again t rest) (r .ballots) blank-ballot [] (λ s h. tt)
+      ap₂ (λ (n : ℕ) (q : List ℕ). cut ballot-from 10 n q) (sym (fits .ballot-entries)) (sym (append-nil (flat ballot-bytes (r .ballots))))
+      ∙ cut-flat ballot-bytes 10 ballot-wide ballot-from Ballot-fits ballot-again (r .ballots) blank-ballot []
+      (λ k h. fits .ballots k (rw (fits .ballot-entries) at h))
 
   head-again : (byte (image-of r) 1 ≡ r .count) × (byte (image-of r) 2 ≡ r .rule) × (cut station-from 20 32 (drop 3 (image-of r)) ≡ r .stations)
   unfolding image-of
@@ -218,6 +220,10 @@ unfolding station-from
 station-fits b h =
     record { cursor = h 2; round = h 3; held = four-fits b 4 h; claim = four-fits b 8 h; word = four-fits b 12 h; decision = four-fits b 16 h }
 
+ballot-fits : (b : List ℕ) → In-bytes b → Ballot-fits (ballot-from b)
+unfolding ballot-from
+ballot-fits b h = record { cast0 = four-fits b 0 h; cast1 = four-fits b 4 h }
+
 head-fits : (b : List ℕ) → In-bytes b → (record-in b .count < 256) × (record-in b .rule < 256)
 unfolding record-in
 head-fits b h = (h 1, h 2)
@@ -230,6 +236,7 @@ record-fits b h =
       station-entries = stations-in b;
       ballot-entries = ballots-in b;
       stations = λ s l. subst Station-fits (sym (entry-in b s l)) (station-fits (drop (station-at s) b) (bytes-after (station-at s) b h));
+      ballots = λ k l. subst Ballot-fits (sym (ballot-in b k l)) (ballot-fits (drop (ballot-at k) b) (bytes-after (ballot-at k) b h));
     }
 
 -- bytes with a record are an image of it
@@ -271,7 +278,7 @@ marked false n = absurd (n refl)
 pub numbers-told : Numbers-told
 unfolding no-image first-met
 numbers-told = record {
-  another-length = λ b n. rw (ne-eqb (length b) 899 n);
-  another-version = λ b e n. rw (e, ne-eqb (byte b 0) 1 n);
+  another-length = λ b n. rw (ne-eqb (length b) 1283 n);
+  another-version = λ b e n. rw (e, ne-eqb (byte b 0) 2 n);
   nothing-else = λ b e v n. rw (e, v) (marked (unread b) (rw (e, v) at n));
 }

@@ -1,4 +1,4 @@
--- A station's entry in 20 bytes and a ballot's in 4: numbers high byte first, as in the log. Assumes nothing.
+-- A station's entry in 20 bytes and a ballot's in 10: numbers high byte first, as in the log. Assumes nothing.
 use Prim.Native.Nat.{ℕ}
 use mathlib.Core.Bool.{Bool, cond, _||_}
 use mathlib.Core.List.{List, [], _∷_, _++_}
@@ -44,15 +44,14 @@ station-from b =
       decision = four-from b 16;
     }
 
--- whether 0 was cast, 1 was cast, it is answered; the answer
+-- the stations that cast 0 and those that cast 1, four bytes each (document 02, A.2); whether it is answered, and the answer
 unfoldable pub ballot-bytes : Ballot → List ℕ
-ballot-bytes t = mark-byte (t .cast0) ∷ mark-byte (t .cast1) ∷ mark-byte (t .answered) ∷ mark-byte (t .answer) ∷ []
+ballot-bytes t = four-bytes (t .cast0) ++ four-bytes (t .cast1) ++ (mark-byte (t .answered) ∷ mark-byte (t .answer) ∷ [])
 
 unfoldable pub ballot-from : List ℕ → Ballot
-ballot-from b =
-    record { cast0 = mark-from (byte b 0); cast1 = mark-from (byte b 1); answered = mark-from (byte b 2); answer = mark-from (byte b 3) }
+ballot-from b = record { cast0 = four-from b 0; cast1 = four-from b 4; answered = mark-from (byte b 8); answer = mark-from (byte b 9) }
 
--- a stage that does not exist, a mark that does not exist; a station with either
+-- a stage that does not exist, a mark that does not exist; a station with either, a ballot with such a mark
 abbrev pub no-stage : ℕ → Bool
 no-stage x = ltb 7 x
 
@@ -61,3 +60,6 @@ no-mark x = ltb 1 x
 
 abbrev pub station-unread : List ℕ → Bool
 station-unread b = no-stage (byte b 0) || no-mark (byte b 1)
+
+abbrev pub ballot-unread : List ℕ → Bool
+ballot-unread b = no-mark (byte b 8) || no-mark (byte b 9)

@@ -11,21 +11,21 @@ use Rattle.basics.specs.Below.{any-below}
 use Rattle.basics.specs.Tests.{Test, when, refuse, first-met}
 use Rattle.entry.specs.declared.entry.Station.{Station}
 use Rattle.entry.specs.declared.entry.Ballot.{Ballot}
-use Rattle.entry.specs.Entries.{station-entries, ballot-entries, blank-station}
+use Rattle.entry.specs.Entries.{station-entries, ballot-entries, blank-station, blank-ballot}
 use Rattle.settlement.specs.declared.record.Settlement.{Settlement}
 use Rattle.settlement.specs.Fault.{fault}
 use Rattle.image.specs.Lists.{flat, cut}
-use Rattle.image.specs.Entries.{station-bytes, station-from, ballot-bytes, ballot-from, no-mark, station-unread}
+use Rattle.image.specs.Entries.{station-bytes, station-from, ballot-bytes, ballot-from, station-unread, ballot-unread}
 
 -- the layout: the version at 0, n at 1, the rule at 2, the stations from 3 on, the ballots after them
 abbrev pub version : ℕ
-version = 1
+version = 2
 
 abbrev pub station-width : ℕ
 station-width = 20
 
 abbrev pub ballot-width : ℕ
-ballot-width = 4
+ballot-width = 10
 
 abbrev pub station-at : ℕ → ℕ
 station-at s = 3 + station-width * s
@@ -55,7 +55,7 @@ record-in b = record { count = byte b 1; rule = byte b 2; stations = stations-in
 unfoldable pub unread : List ℕ → Bool
 unread b =
     any-below station-entries (λ s. station-unread (drop (station-at s) b))
-    || any-below (ballot-width * ballot-entries) (λ i. no-mark (byte (drop (ballot-at 0) b) i))
+    || any-below ballot-entries (λ k. ballot-unread (drop (ballot-at k) b))
 
 abbrev pub other-length : List ℕ → Bool
 other-length b = not (eqb (length b) image-bytes)
@@ -93,12 +93,17 @@ pub record Station-fits (t : Station) : Type 0 where
   pub word : t .word < 4294967296
   pub decision : t .decision < 4294967296
 
+pub record Ballot-fits (t : Ballot) : Type 0 where
+  pub cast0 : t .cast0 < 4294967296
+  pub cast1 : t .cast1 < 4294967296
+
 pub record Record-fits (r : Settlement) : Type 0 where
   pub count : r .count < 256
   pub rule : r .rule < 256
   pub station-entries : length (r .stations) ≡ 32
   pub ballot-entries : length (r .ballots) ≡ 64
   pub stations : (s : ℕ) → s < 32 → Station-fits (getD (r .stations) s blank-station)
+  pub ballots : (b : ℕ) → b < 64 → Ballot-fits (getD (r .ballots) b blank-ballot)
 
 pub record Round-trip : Type 0 where
   -- every record comes back from its image
@@ -108,10 +113,10 @@ pub record Round-trip : Type 0 where
   -- the records that bytes have are those whose numbers fit
   pub fits : (b : List ℕ) (r : Settlement) → In-bytes b → record-of b ≡ some r → Record-fits r
   -- an image is of one length
-  pub one-length : (r : Settlement) → Record-fits r → length (image-of r) ≡ 899
+  pub one-length : (r : Settlement) → Record-fits r → length (image-of r) ≡ 1283
 
 -- bytes that are no image: another length is 80, another version 81, and all else 42
 pub record Numbers-told : Type 0 where
-  pub another-length : (b : List ℕ) → (length b ≡ 899 → ⊥) → no-image b ≡ 80
-  pub another-version : (b : List ℕ) → length b ≡ 899 → (byte b 0 ≡ 1 → ⊥) → no-image b ≡ 81
-  pub nothing-else : (b : List ℕ) → length b ≡ 899 → byte b 0 ≡ 1 → (no-image b ≡ 0 → ⊥) → no-image b ≡ 42
+  pub another-length : (b : List ℕ) → (length b ≡ 1283 → ⊥) → no-image b ≡ 80
+  pub another-version : (b : List ℕ) → length b ≡ 1283 → (byte b 0 ≡ 2 → ⊥) → no-image b ≡ 81
+  pub nothing-else : (b : List ℕ) → length b ≡ 1283 → byte b 0 ≡ 2 → (no-image b ≡ 0 → ⊥) → no-image b ≡ 42

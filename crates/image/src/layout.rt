@@ -3,11 +3,11 @@ use entry::entry::BALLOT_ENTRIES;
 use entry::entry::STATION_ENTRIES;
 
 // The first byte. Another layout gets another one.
-pub const VERSION: u8 = 1;
+pub const VERSION: u8 = 2;
 
 pub const STATION_WIDTH: usize = 20;
 
-pub const BALLOT_WIDTH: usize = 4;
+pub const BALLOT_WIDTH: usize = 10;
 
 pub const STATIONS: usize = 3;
 

@@ -11,7 +11,7 @@ use borrow.Author.Tests.{eqb-true, eqb-false, eq-eqb, lt-ltb, le-ltb, ltb-true, 
 use Rattle.basics.specs.Tests.{first-met}
 use Rattle.basics.specs.Below.{count-below}
 use Rattle.basics.proofs.Bools.{by-bool, cond-ind, no-clash, not-true→false, or-later, both-ways, beq-same, beq-true}
-use Rattle.basics.proofs.Lists.{set-either}
+use Rattle.basics.proofs.Lists.{set-keeps}
 use Rattle.basics.proofs.Below.{count-same, count-past, count-either}
 use Rattle.bits.specs.Words.{mask-bits, member, size}
 use Rattle.bits.proofs.Masks.{some-member, some-in}
@@ -87,7 +87,7 @@ answer-leaves : (r : Settlement) (b v : ℕ) (a : Bool) → voters (ballot (play
 unfolding played outcome effect ballot-after
 answer-leaves r b v a =
     cond-ind (λ (x : Settlement). voters (ballot x b) a ≡ voters (ballot r b) a) (eqb (number r (answer b v)) 0) (effect r (answer b v)) r
-    (λ e. set-either (λ (t : Ballot). voters t a ≡ voters (ballot r b) a) (r .ballots) b (answering (as-bit v) (ballot r b)) blank-ballot refl refl)
+    (λ e. set-keeps (λ (t : Ballot). voters t a ≡ voters (ballot r b) a) (r .ballots) b (answering (as-bit v) (ballot r b)) blank-ballot b refl refl)
     (λ e. refl)
 
 sets-stay : (r : Settlement) (e : Event) (b : ℕ) (a : Bool) → (Casts-in r e b → ⊥)

@@ -11,4 +11,4 @@ returns c = cc
 pub ballot-from-spec : {M : Type 1} → statement M
 ballot-from-spec =
     tie.close
-    (tie.spec (λ byte-at-requires κs. search needs) (λ byte-at-requires-2 κs. search needs) (λ byte-at-requires-3 κs. search needs) (λ byte-at-requires-4 κs. search needs) returns)
+    (tie.spec (λ four-at-requires κs. search needs) (λ four-at-requires-2 κs. search needs) (λ byte-at-requires κs. search needs) (λ byte-at-requires-2 κs. search needs) returns)

@@ -1,4 +1,4 @@
--- `image::ballot::write_ballot`: each store puts the next byte of the definition at the next place. Assumes nothing.
+-- `image::ballot::write_ballot`: each store puts the next bytes of the definition at the next place. Assumes nothing.
 use Rattle.image.specs.Entries.{ballot-bytes}
 use borrow.Author.Needs.{needs}
 use Rattle.image.proofs.ballot.write_ballot.Statement.{statement}
@@ -12,13 +12,11 @@ pub write-ballot-spec : {M : Type 1} → statement M
 write-ballot-spec =
     tie.close
     (tie.spec
+    (λ set-four-requires κs. search needs)
+    (λ set-four-requires-2 κs. search needs)
     (λ mark-byte-requires κs. search needs)
     (λ set-byte-requires κs. search needs)
     (λ mark-byte-requires-2 κs. search needs)
     (λ set-byte-requires-2 κs. search needs)
-    (λ mark-byte-requires-3 κs. search needs)
-    (λ set-byte-requires-3 κs. search needs)
-    (λ mark-byte-requires-4 κs. search needs)
-    (λ set-byte-requires-4 κs. search needs)
     (λ same-length. search needs)
     returns)
