@@ -1,21 +1,23 @@
 -- Events and LOOKs on an image byte by byte: each row is computed. Assumes nothing.
 use mathlib.Core.Path.{refl}
-use Rattle.basics.specs.Below.{any-below}
+use Rattle.basics.specs.Below.{any-below, count-below}
 use Rattle.basics.specs.Tests.{first-met}
 use Rattle.bits.specs.Digits.{digits-in, binary-digits, bit}
 use Rattle.bits.specs.Log.{least-from, ceil-log2}
-use Rattle.bits.specs.Words.{with-bit, low-agree, word-with-bit, member, insert}
+use Rattle.bits.specs.Words.{with-bit, low-agree, word-with-bit, member, insert, size}
 use Rattle.event.specs.Change.{own-after, ballot-after}
 use Rattle.event.specs.Step.{stepped, voted}
 use Rattle.settlement.specs.Fault.{station-fault, fault}
 use Rattle.settlement.specs.Events.{outcome, number, effect, played}
 use Rattle.settlement.specs.Look.{votes, looked}
+use Rattle.settlement.specs.Tally.{tally, tallied}
 use Rattle.image.specs.Lists.{flat, cut}
 use Rattle.image.specs.Entries.{stage-from, station-bytes, station-from, ballot-bytes, ballot-from}
 use Rattle.image.specs.Image.{image-of, record-in, unread, no-image}
 use Rattle.on_image.specs.Events.{image-number, image-after}
 use Rattle.on_image.specs.Look.{looked-on, standing-bytes, standing-word, standings, all-number, all-after, all-answer}
-use Rattle.on_image.specs.Examples.{Looks-shown, Events-shown}
+use Rattle.on_image.specs.Tally.{tally-bytes, tally-number, tally-after, tally-answer}
+use Rattle.on_image.specs.Examples.{Looks-shown, Events-shown, Tallies-shown}
 
 pub looks-shown : Looks-shown
 unfolding any-below first-met bit least-from ceil-log2 station-fault fault votes looked flat cut stage-from station-from ballot-from record-in unread no-image looked-on standing-bytes standing-word standings all-number all-after all-answer
@@ -57,4 +59,20 @@ events-shown = record {
   again-number = refl;
   again-left = refl;
   other-number = refl;
+}
+
+pub tallies-shown : Tallies-shown
+unfolding any-below count-below first-met digits-in binary-digits bit least-from ceil-log2 member size station-fault fault tally tallied cut stage-from station-from ballot-from record-in unread no-image tally-bytes tally-number tally-after tally-answer
+tallies-shown = record {
+  bytes = refl;
+  answer = refl;
+  shown = refl;
+  count = refl;
+  just-room = refl;
+  no-room = refl;
+  no-room-left = refl;
+  short = refl;
+  no-rule = refl;
+  no-ballot = refl;
+  no-ballot-left = refl;
 }

@@ -21,7 +21,7 @@ use Rattle.settlement.specs.Record.{entry}
 use Rattle.settlement.specs.Fault.{fault}
 use Rattle.settlement.specs.Look.{look-tests, standing, turned-away, looked}
 use Rattle.settlement.proofs.Range.{few-stations}
-use Rattle.image.specs.Image.{other-length, version, record-in, unread, no-image}
+use Rattle.image.specs.Image.{other-length, version, record-in, unread, no-image, tested-first}
 use Rattle.basics.proofs.Bytes.{four-again}
 use Rattle.image.specs.Entries.{mark-byte}
 use Rattle.on_image.specs.Look.{looked-on, standing-bytes, standings, all-number, all-after, all-answer, Looks, standing-word, Word-again}
@@ -94,6 +94,39 @@ module _ (b : List ℕ) (s : ℕ) where
           let n = eqb-false (no-image b) 0 p in
           absurd (n (sym (ap (λ (t : Standing). t .number) (no-image-shown n)) ∙ z))
 
+-- ---- the bytes and the record first
+
+cond-0 : (k x : ℕ) → cond (eqb k 0) x k ≡ 0 → (k ≡ 0) × (x ≡ 0)
+cond-0 k x e = by-bool (eqb k 0) (λ p. (eqb-true k 0 p, rw p at e)) (λ p. absurd (eqb-false k 0 p (rw p at e)))
+
+pub tested-0 : (b : List ℕ) (x : ℕ) → tested-first b x ≡ 0 → (no-image b ≡ 0) × (fault (record-in b) ≡ false) × (x ≡ 0)
+tested-0 b x e =
+    let both = cond-0 (no-image b) (refuse (fault (record-in b)) 42 x) e in
+    let later = refused-not (fault (record-in b)) 42 x refl (both .1) in
+    (both .0, later .0, later .1)
+
+not-30 : (b : List ℕ) → no-image b ≡ 30 → ⊥
+unfolding no-image first-met
+not-30 b e = three (other-length b) (not (eqb (byte b 0) version)) (unread b) e
+  where
+    three : (x y z : Bool) → refuse x 80 (refuse y 81 (refuse z 42 0)) ≡ 30 → ⊥
+    three true y z e = omega (arith, e)
+    three false true z e = omega (arith, e)
+    three false false true e = omega (arith, e)
+    three false false false e = omega (arith, e)
+
+-- 30 is neither the bytes' nor the record's
+pub tested-30 : (b : List ℕ) (x : ℕ) → tested-first b x ≡ 30 → (fault (record-in b) ≡ false) × (x ≡ 30)
+tested-30 b x e =
+    by-bool (eqb (no-image b) 0)
+    (λ p. by-bool (fault (record-in b)) (λ f. let clash : 42 + 0 ≡ 30 = rw (p, f) at e in absurd (omega (arith, clash))) (λ f. (f, rw (p, f) at e)))
+    (λ p. absurd (not-30 b (rw p at e)))
+
+-- the test that gives 30 is met
+pub met-30 : (p : Bool) → refuse p 30 0 ≡ 30 → p ≡ true
+met-30 true e = refl
+met-30 false e = absurd (omega (arith, e))
+
 -- ---- all stations at once
 
 standings-long : (f : ℕ → Standing) (n : ℕ) → length (standings f n) ≡ 8 * n
@@ -107,19 +140,12 @@ module _ (b out : List ℕ) where
     pub passes : fault (record-in b) ≡ false
     pub fits : 8 * record-in b .count ≤ length out
 
-  abbrev later : ℕ
-  later = refuse (fault (record-in b)) 42 (refuse (ltb (length out) (8 * record-in b .count)) 30 0)
-
-  cond-0 : (k x : ℕ) → cond (eqb k 0) x k ≡ 0 → (k ≡ 0) × (x ≡ 0)
-  cond-0 k x e = by-bool (eqb k 0) (λ p. (eqb-true k 0 p, rw p at e)) (λ p. absurd (eqb-false k 0 p (rw p at e)))
-
   pub room : all-number b out ≡ 0 → Room
   unfolding all-number
   room z =
-      let both = cond-0 (no-image b) later z in
-      let one = refused-not (fault (record-in b)) 42 (refuse (ltb (length out) (8 * record-in b .count)) 30 0) refl (both .1) in
-      let two = refused-not (ltb (length out) (8 * record-in b .count)) 30 0 refl (one .1) in
-      record { an-image = both .0; passes = one .0; fits = ltb-false _ _ (two .0) }
+      let passed = tested-0 b (refuse (ltb (length out) (8 * record-in b .count)) 30 0) z in
+      let fits = refused-not (ltb (length out) (8 * record-in b .count)) 30 0 refl (passed .2) in
+      record { an-image = passed .0; passes = passed .1; fits = ltb-false _ _ (fits .0) }
 
   pub all-refused : (all-number b out ≡ 0 → ⊥) → (65536 * all-number b out ≡ all-answer b out) × (out ≡ all-after b out)
   unfolding all-answer all-after
@@ -147,34 +173,13 @@ piece f (suc n) s h rest =
     last : s ≡ n → take 8 (drop (8 * s) (standings f n ++ (standing-bytes (f n) ++ rest))) ≡ standing-bytes (f s)
     last e = rw (e, drop-at (standings f n) (standing-bytes (f n) ++ rest) (8 * n) (standings-long f n), take-at (standing-bytes (f n)) rest 8 (eight (f n)))
 
-not-30 : (b : List ℕ) → no-image b ≡ 30 → ⊥
-unfolding no-image first-met
-not-30 b e = three (other-length b) (not (eqb (byte b 0) version)) (unread b) e
-  where
-    three : (x y z : Bool) → refuse x 80 (refuse y 81 (refuse z 42 0)) ≡ 30 → ⊥
-    three true y z e = omega (arith, e)
-    three false true z e = omega (arith, e)
-    three false false true e = omega (arith, e)
-    three false false false e = omega (arith, e)
-
 enough : (b out : List ℕ) → 256 ≤ length out → all-number b out ≡ 30 → ⊥
 unfolding all-number
-enough b out h e = by-bool (eqb (no-image b) 0) yes no
-  where
-    tested-e : fault (record-in b) ≡ true → refuse (fault (record-in b)) 42 (refuse (ltb (length out) (8 * record-in b .count)) 30 0) ≡ 30 → ⊥
-    tested-e f e = omega (arith, rw f at e)
-
-    fits-e : fault (record-in b) ≡ false → refuse (fault (record-in b)) 42 (refuse (ltb (length out) (8 * record-in b .count)) 30 0) ≡ 30 → ⊥
-    fits-e f e =
-        let few = few-stations (record-in b) f in
-        let room : ltb (length out) (8 * record-in b .count) ≡ false = le-ltb (length out) (8 * record-in b .count) (omega (arith, few)) in
-        omega (arith, rw (f, room) at e)
-
-    yes : eqb (no-image b) 0 ≡ true → ⊥
-    yes p = by-bool (fault (record-in b)) (λ f. tested-e f (rw p at e)) (λ f. fits-e f (rw p at e))
-
-    no : eqb (no-image b) 0 ≡ false → ⊥
-    no p = not-30 b (rw p at e)
+enough b out h e =
+    let late = tested-30 b (refuse (ltb (length out) (8 * record-in b .count)) 30 0) e in
+    let few = few-stations (record-in b) (late .0) in
+    let short = ltb-true (length out) (8 * record-in b .count) (met-30 _ (late .1)) in
+    omega (arith, few, short)
 
 each : (b out : List ℕ) → all-number b out ≡ 0 → (s : ℕ) → s < record-in b .count → take 8 (drop (8 * s) (all-after b out)) ≡ standing-bytes (looked-on b s)
 unfolding all-after

@@ -4,5 +4,6 @@
 pub mod events;
 pub mod fault;
 pub mod look;
+pub mod look_ballot;
 pub mod place;
 pub mod play;

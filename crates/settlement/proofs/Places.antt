@@ -55,7 +55,7 @@ first-gives v (answer b a) h = met _ 9 _ h
 
 -- ---- inside the arrays
 
-ballots-few : (n rule : ℕ) → n ≤ station-entries → ballots n rule ≤ ballot-entries
+pub ballots-few : (n rule : ℕ) → n ≤ station-entries → ballots n rule ≤ ballot-entries
 ballots-few n rule few =
     cond-ind (λ (x : ℕ). x ≤ ballot-entries) (eqb n 0) _ _ (λ e. omega arith)
     (λ e. cond-ind (λ (x : ℕ). x ≤ ballot-entries) (by-station rule) _ _ (λ e. let few-rounds = log-le n 5 few in omega arith) (λ e. le-refl ballot-entries))

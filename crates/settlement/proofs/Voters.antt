@@ -53,7 +53,7 @@ module _ (r : Settlement) (b : ℕ) where
   unfolding tallied first-met
   shown-9 passes h = rw (passes, le-ltb b (ballots (r .count) (r .rule)) h)
 
-  shown-whole : fault r ≡ false → b < ballots (r .count) (r .rule) → tallied r b ≡ tally (ballot r b)
+  pub shown-whole : fault r ≡ false → b < ballots (r .count) (r .rule) → tallied r b ≡ tally (ballot r b)
   unfolding tallied first-met
   shown-whole passes h = rw (passes, lt-ltb b (ballots (r .count) (r .rule)) h)
 
