@@ -5,6 +5,7 @@ ghost use Rattle.consensus.specs.Events.{claim, deliver, step, lose, answer};
 ghost use Rattle.settlement.specs.Events.{opened};
 ghost use Rattle.on_image.specs.Events.{image-number, image-after};
 ghost use Rattle.on_image.specs.Look.{looked-on, standing-word, all-answer, all-after};
+ghost use Rattle.on_image.specs.Tally.{tally-answer, tally-after};
 ghost use Rattle.whole_image.specs.Whole.{stored-number, stored};
 use bits::word::Word;
 use on_image::events::answer_on;
@@ -15,6 +16,7 @@ use on_image::events::step_on;
 use on_image::look::look_all;
 use on_image::look::look_on;
 use on_image::look::standing_word;
+use on_image::look_ballot::look_ballot_on;
 use whole_image::whole::open_image;
 
 #[no_mangle]
@@ -79,4 +81,13 @@ pub extern "C" fn dagmuize_look_all(image: &[u8], out: &mut [u8]) -> u32
     ensures { λ _. ⌜ now (out .exit) ≡ all-after (now (image .entry)) (now (out .entry)) ⌝ }
 {
     look_all(image, out)
+}
+
+// LOOK at a ballot: 65,536 times the number, and the bytes written.
+#[no_mangle]
+pub extern "C" fn dagmuize_look_ballot(image: &[u8], b: u8, out: &mut [u8]) -> u32
+    ensures { λ x. ⌜ x ≡ tally-answer (now (image .entry)) b (now (out .entry)) ⌝ }
+    ensures { λ _. ⌜ now (out .exit) ≡ tally-after (now (image .entry)) b (now (out .entry)) ⌝ }
+{
+    look_ballot_on(image, b, out)
 }

@@ -27,23 +27,23 @@ use Rattle.on_image.proofs.Lists.{image-lists}
 use Rattle.whole_image.specs.Whole.{stored-number, stored, report-number, image-text}
 use Rattle.whole_image.specs.Lists.{Whole-lists}
 
-module _ (b : List ℕ) (size : length b ≡ 899) where
-  in-899 : (r : Settlement) → stored b r ≡ image-of r
+module _ (b : List ℕ) (size : length b ≡ 1283) where
+  whole-stored : (r : Settlement) → stored b r ≡ image-of r
   unfolding stored
-  in-899 r = rw size
+  whole-stored r = rw size
 
-  number-899 : (k : ℕ) → stored-number b k ≡ k
+  whole-number : (k : ℕ) → stored-number b k ≡ k
   unfolding stored-number
-  number-899 k = rw size
+  whole-number k = rw size
 
   opens : (o : Opening) → Openable o
       → (stored-number b (opened (o .count) (rule-number (o .rule)) .number) ≡ 0)
       × Stands o start (stored b (opened (o .count) (rule-number (o .rule)) .settlement))
-  opens o a = (number-899 _ ∙ demands .opens o a, in-899 _)
+  opens o a = (whole-number _ ∙ demands .opens o a, whole-stored _)
 
   plays : (log : List ℕ) (limit : ℕ) (o : Opening) (h : History) → Played log limit (ran log limit) o h → Stands o h (stored b (ran log limit .settlement))
   plays log limit o h p =
-      subst (Stands o h) (sym (in-899 (ran log limit .settlement) ∙ ap image-of (p .settlement))) (image-lists .stands o (p .openable) h (p .fits))
+      subst (Stands o h) (sym (whole-stored (ran log limit .settlement) ∙ ap image-of (p .settlement))) (image-lists .stands o (p .openable) h (p .fits))
 
 -- ---- the report
 

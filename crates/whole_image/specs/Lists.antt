@@ -15,12 +15,12 @@ use Rattle.on_image.specs.Lists.{Stands}
 use Rattle.whole_image.specs.Whole.{stored-number, stored, image-text}
 
 pub record Whole-lists : Type 0 where
-  -- OPEN into any 899 bytes is accepted, and what stands there then is where a list of events on an image begins
-  pub opens : (b : List ℕ) → length b ≡ 899 → (o : Opening) → Openable o
+  -- OPEN into any 1,283 bytes is accepted, and what stands there then is where a list of events on an image begins
+  pub opens : (b : List ℕ) → length b ≡ 1283 → (o : Opening) → Openable o
       → (stored-number b (opened (o .count) (rule-number (o .rule)) .number) ≡ 0)
       × Stands o start (stored b (opened (o .count) (rule-number (o .rule)) .settlement))
   -- the image that a log plays to is what stands there after the events that RUN played, one by one on an image
-  pub plays : (b : List ℕ) → length b ≡ 899 → (log : List ℕ) (limit : ℕ) (o : Opening) (h : History) → Played log limit (ran log limit) o h
+  pub plays : (b : List ℕ) → length b ≡ 1283 → (log : List ℕ) (limit : ℕ) (o : Opening) (h : History) → Played log limit (ran log limit) o h
       → Stands o h (stored b (ran log limit .settlement))
   -- and its report, with RUN's events, bytes and status, is the text of what RUN answered
   pub reports : (log : List ℕ) (limit : ℕ) → In-bytes log

@@ -9,7 +9,7 @@ use Rattle.basics.proofs.Lists.{unmapped-length}
 use Rattle.entry.specs.Entries.{station-entries, ballot-entries}
 use Rattle.settlement.specs.Record.{entry}
 use Rattle.image.specs.Entries.{station-bytes}
-use Rattle.image.specs.Image.{station-at, image-bytes, image-of}
+use Rattle.image.specs.Image.{version, station-at, image-bytes, image-of}
 use Rattle.image.proofs.Entries.{station-wide}
 use Rattle.image.proofs.Image.{image-long, station-bytes-at}
 use Rattle.whole_image.proofs.Partly.{Stored, stored-front, stored-more, three-set}
@@ -27,8 +27,8 @@ unfolding image-of
 loop-holds c =
     let image = now (c .before .args .image) in
     let r = c .before .args .t2 in
-    let same : length (set (set (set image 0 1) 1 (r .count)) 2 (r .rule)) ≡ image-bytes = simp length-set (c .before .pre) in
-    (search needs, same, record { long = same; so-far = rw (three-set image 1 (r .count) (r .rule) (omega arith)) })
+    let same : length (set (set (set image 0 version) 1 (r .count)) 2 (r .rule)) ≡ image-bytes = simp length-set (c .before .pre) in
+    (search needs, same, record { long = same; so-far = rw (three-set image version (r .count) (r .rule) (omega arith)) })
 
 loop-less : tie.Need-loop-less Inv-loop μ-loop
 loop-less c = omega arith
