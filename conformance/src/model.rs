@@ -1,6 +1,6 @@
-//! The settlement of document 01, with request A.1 of document 02, told as a history: who put in which claim, who holds
-//! whose, who is lost, which ballot has which answer, and each station's own list of what it did.
-//! Stage, round, word and cursor are stored nowhere: they are read off that list.
+//! The settlement of document 01, with requests A.1 and A.2 of document 02, told as a history: who put in which claim, who
+//! holds whose, who is lost, which ballot has which answer, and each station's own list of what it did.
+//! Stage, round, word, cursor and who voted which way are stored nowhere: they are read off that list.
 
 use std::collections::{BTreeMap, BTreeSet};
 
@@ -50,6 +50,13 @@ pub enum Stage {
     Awaiting(u8),
     Seeking,
     Decided,
+}
+
+/// 02, A.2: what a look at a ballot shows. The stations that cast 0, those that cast 1, and the answer if there is one.
+#[derive(Clone, Debug, PartialEq, Eq)]
+pub struct Votes {
+    pub voters: [BTreeSet<u8>; 2],
+    pub answer: Option<u8>,
 }
 
 /// Everything that was accepted since OPEN.
@@ -222,6 +229,18 @@ impl Play {
     pub fn was_cast(&self, ballot: u8, bit: u8) -> bool {
         let vote = Action::Vote { ballot, bit };
         self.actions.values().any(|actions| actions.contains(&vote))
+    }
+
+    /// 02, A.2: the stations that cast this bit, lost since or not.
+    pub fn voters(&self, ballot: u8, bit: u8) -> BTreeSet<u8> {
+        let vote = Action::Vote { ballot, bit };
+        self.actions.iter().filter(|(_, actions)| actions.contains(&vote)).map(|(&s, _)| s).collect()
+    }
+
+    /// 02, A.2: a look at a ballot, or 9.
+    pub fn look_ballot(&self, b: u8) -> Result<Votes, u8> {
+        refuse(b >= self.ballots(), 9)?;
+        Ok(Votes { voters: [self.voters(b, 0), self.voters(b, 1)], answer: self.answers.get(&b).copied() })
     }
 
     /// Plays one event and answers its number. Refused, nothing has happened.
