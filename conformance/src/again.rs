@@ -24,9 +24,9 @@ impl Met {
         due.iter().copied().filter(|sort| self.times(sort) < least).collect()
     }
 
-    /// A line for each.
-    pub fn lines(&self, due: &[&str]) -> String {
-        due.iter().map(|sort| format!("ANSWER of {sort}: {}\n", self.times(sort))).collect()
+    /// A line for each, which begins with these words.
+    pub fn lines(&self, words: &str, due: &[&str]) -> String {
+        due.iter().map(|sort| format!("{words} {sort}: {}\n", self.times(sort))).collect()
     }
 }
 
@@ -52,7 +52,7 @@ pub fn on_record(record: &Record, event: Event, number: u8) -> Option<&'static s
     if ![0, 11].contains(&number) || !record.ballots[usize::from(b)].answered {
         return None;
     }
-    let cast = record.ballots[usize::from(b)].cast[usize::from(a)];
+    let cast = record.ballots[usize::from(b)].was_cast(a);
     let sort = 4 * usize::from(number == 11) + 2 * usize::from(a) + usize::from(cast);
     Some(ON_RECORDS[sort])
 }

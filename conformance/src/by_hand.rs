@@ -1,5 +1,5 @@
-//! The stored script of `lent_case`, by topic. Each number beside a call is written by hand from document 01 and, for answers that come twice,
-//! from request A.1 of document 02; the plain reading in `record.rs` has to give it too, and the program.
+//! The stored script of `lent_case`, by topic. Each number beside a call is written by hand from document 01 and, for answers that come twice
+//! and for who voted which way, from requests A.1 and A.2 of document 02; the plain reading in `record.rs` has to give it too, and the program.
 
 use crate::log::{written, Field};
 use crate::model::Event;
@@ -23,6 +23,7 @@ pub fn script() -> Script {
     hand.stays();
     hand.orders();
     hand.repeats();
+    hand.tallies();
     hand.lengths();
     hand.bodies();
     hand.rests();
@@ -93,6 +94,7 @@ impl Hand {
         }
         self.look(0, [42, 0, 0, 0]);
         self.look(255, [42, 0, 0, 0]);
+        self.no_tally(64, 42);
         self.call(Command::ShowHead, &[n.into(), rule.into()]);
         let before = self.0.record.stations[0];
         assert_eq!(before, station, "a refused event leaves the very settlement it was given");
@@ -113,8 +115,9 @@ impl Hand {
         self.0.say("#   look: its number, 1 if decided, the claim, the votes\n");
         self.0.say("#   head: stations, rule\n");
         self.0.say("#   station: stage (0 idle, 1 waiting, 2 voting, 3 awaiting, 4 seeking, 5 voting and 6 awaiting on a finish ballot, 7 decided),\n");
-        self.0.say("#     1 if lost, cursor, round, held (a mask of stations), claim, word, decision\n");
-        self.0.say("#   ballot: 1 if 0 was cast, 1 if 1 was cast, 1 if answered, the answer\n");
+        self.0.say("#     1 if lost, cursor j, round k, held (a mask of stations), claim, word d, decision\n");
+        self.0.say("#   ballot: the masks of the stations that cast 0 and that cast 1, 1 if answered, the answer\n");
+        self.0.say("#   tally, a look at a ballot: its number, both masks, how many stations are in each, 1 if answered, the answer\n");
         self.0.say("#   read: tag, the body's numbers (a byte, another, a claim), bytes taken; or the number of the refusal alone\n");
         self.0.say("#   body, rest: how many bytes, and which\n");
         self.0.say("#   run: events, bytes taken, status. length: the count of binary digits\n");
@@ -139,7 +142,7 @@ impl Hand {
             (32, 2, 0),
         ] {
             self.made(32, 2, 0, Station { lost: true, cursor: 7, ..at(Decided, 9) });
-            self.make(Command::MakeBallot(0, Ballot { cast: [true; 2], answered: true, answer: true }));
+            self.make(Command::MakeBallot(0, Ballot { cast: [u32::MAX; 2], answered: true, answer: true }));
             self.call(Command::Open { n, rule }, &[number]);
             let (n, rule) = if number == 0 { (n, rule) } else { (0, 1) };
             self.call(Command::ShowHead, &[n.into(), rule.into()]);
@@ -192,7 +195,13 @@ impl Hand {
         self.look(1, [0, 1, 9, 1]);
         self.event(Event::Answer { b: 0, a: 1 }, 0);
         self.event(ANSWER, 11);
-        self.0.show_record();
+        self.call(Command::ShowStation(0), &[7, 0, 1, 0, 3, 7, 1, 9]);
+        self.call(Command::ShowStation(1), &[7, 1, 1, 0, 2, 9, 1, 9]);
+        self.call(Command::ShowStation(2), &[0; 8]);
+        self.call(Command::ShowBallot(0), &[1, 2, 1, 1]);
+        self.call(Command::ShowBallot(1), &[0; 4]);
+        self.tally(0, [1, 2, 1, 1, 1, 1]);
+        self.no_tally(1, 9);
     }
 
     fn looks(&mut self) {
@@ -239,7 +248,7 @@ impl Hand {
         self.heading("a station below n whose cursor is n or more: 42");
         for rule in [1, 2] {
             for n in [1, 7, 32] {
-                for stage in [Idle, Waiting, Decided] {
+                for stage in [Idle, Decided] {
                     self.faulty(n, rule, Station { cursor: n, ..at(stage, 0) });
                     let look = self.look_of(n, rule, Station { cursor: n - 1, ..at(stage, 0) });
                     self.sound(n, rule, Station { cursor: n - 1, ..at(stage, 0) }, look);
@@ -249,7 +258,7 @@ impl Hand {
         }
     }
 
-    /// Votes of the three stages that both rules share: 0, 0, and R or 2.
+    /// Votes of two stages that both rules share: 0, and R or 2.
     fn look_of(&self, n: u8, rule: u8, station: Station) -> [u64; 4] {
         let rounds = [(1, 0), (7, 3), (32, 5)].iter().find(|(count, _)| *count == n).map_or(0, |(_, r)| *r);
         match (station.stage, rule) {
@@ -321,7 +330,7 @@ impl Hand {
     fn last_ballot(&mut self) {
         self.heading("Taking answer 0 from ballot 63, met only by a made-up record: 42.");
         let last = Station { word: 5, ..at(AwaitingFinish, 31) };
-        let answered = |answer| Ballot { cast: [true; 2], answered: true, answer };
+        let answered = |answer| Ballot { cast: [1, 2], answered: true, answer };
         self.made(2, 2, 0, last);
         self.event(STEP, 8);
         self.make(Command::MakeBallot(63, answered(false)));
@@ -407,7 +416,7 @@ impl Hand {
     }
 
     fn takes(&mut self, full: Station) {
-        let all = Ballot { cast: [true; 2], answered: true, answer: true };
+        let all = Ballot { cast: [5, 10], answered: true, answer: true };
         for (rule, stage, b, answer, after, words) in [
             (1, Awaiting, 1, true, [4, 0, 1, 1, 255, 6, 242, 77], "a bit answer becomes bit k of d, then seeking"),
             (2, Awaiting, 2, false, [4, 0, 1, 1, 255, 6, 240, 77], "the same under rule 2, answer 0"),
@@ -420,7 +429,7 @@ impl Hand {
             self.make(Command::MakeBallot(b, Ballot { answer, ..all }));
             self.event(STEP, 0);
             self.call(Command::ShowStation(0), &after);
-            self.call(Command::ShowBallot(b), &[1, 1, 1, answer.into()]);
+            self.call(Command::ShowBallot(b), &[5, 10, 1, answer.into()]);
         }
         self.heading("With rule 1 and n = 1 it decides its own claim at once.");
         self.made(1, 1, 0, Station { stage: Waiting, cursor: 0, ..full });
@@ -452,37 +461,47 @@ impl Hand {
         self.event(DELIVER, 4);
         self.event(CLAIM, 0);
         self.event(DELIVER, 5);
-        self.make(Command::MakeBallot(0, Ballot { cast: [false; 2], answered: true, answer: false }));
+        self.make(Command::MakeBallot(0, Ballot { cast: [0; 2], answered: true, answer: false }));
         self.event(Event::Answer { b: 0, a: 2 }, 10);
         self.event(Event::Answer { b: 0, a: 1 }, 11);
     }
 
-    /// Made up: whether 0 and 1 were cast in ballot 0, whether it is answered, and its answer.
-    fn ballot(&mut self, marks: [u64; 4]) {
-        let [zero, one, answered, answer] = marks.map(|mark| mark == 1);
-        self.make(Command::MakeBallot(0, Ballot { cast: [zero, one], answered, answer }));
+    /// Made up: who cast 0 and who cast 1 in a ballot, whether it is answered, and its answer.
+    fn ballot(&mut self, b: u8, [zero, one, answered, answer]: [u32; 4]) {
+        let ballot = Ballot { cast: [zero, one], answered: answered == 1, answer: answer == 1 };
+        self.make(Command::MakeBallot(b, ballot));
     }
 
-    /// ANSWER 0, a: its number, and the ballot's marks afterwards.
-    fn answer(&mut self, a: u8, number: u8, marks: [u64; 4]) {
+    /// ANSWER 0, a: its number, and the ballot afterwards.
+    fn answer(&mut self, a: u8, number: u8, after: [u32; 4]) {
         self.event(Event::Answer { b: 0, a }, number);
-        self.call(Command::ShowBallot(0), &marks);
+        self.call(Command::ShowBallot(0), &after.map(u64::from));
+    }
+
+    /// A look at a ballot: both sets, how many are in each, answered, the answer.
+    fn tally(&mut self, b: u8, answer: [u64; 6]) {
+        self.call(Command::LookBallot(b), &[&[0][..], &answer].concat());
+    }
+
+    /// A look at a ballot that is refused: empty sets, counts 0 and no answer.
+    fn no_tally(&mut self, b: u8, number: u8) {
+        self.call(Command::LookBallot(b), &[number.into(), 0, 0, 0, 0, 0, 0]);
     }
 
     fn repeats(&mut self) {
         self.heading(
             "the answer a ballot already has is accepted again and changes nothing; 11 is for the other bit only",
         );
-        for (zero, one) in [(0, 0), (1, 0), (0, 1), (1, 1)] {
+        for (zero, one) in [(0, 0), (1, 0), (0, 2), (3, 1)] {
             for a in [0, 1] {
-                let marks = [zero, one, 1, a.into()];
-                self.ballot(marks);
+                let stands = [zero, one, 1, a.into()];
+                self.ballot(0, stands);
                 self.event(Event::Answer { b: 0, a: 1 - a }, 11);
-                self.answer(a, 0, marks);
+                self.answer(a, 0, stands);
             }
         }
         self.event(Event::Answer { b: 0, a: 2 }, 10);
-        self.answer(1, 0, [1, 1, 1, 1]);
+        self.answer(1, 0, [3, 1, 1, 1]);
         self.unanswered();
         self.no_ballots();
         self.played_twice();
@@ -490,21 +509,20 @@ impl Hand {
 
     fn unanswered(&mut self) {
         self.heading("12 is met only where no answer stands, whatever the answer's mark is");
-        for (a, marks) in [(0, [0, 0, 0, 0]), (1, [0, 0, 0, 1]), (1, [1, 0, 0, 1]), (0, [0, 1, 0, 0])] {
-            self.ballot(marks);
+        for (a, before) in [(0, [0, 0, 0, 0]), (1, [0, 0, 0, 1]), (1, [1, 0, 0, 1]), (0, [0, 1, 0, 0])] {
+            self.ballot(0, before);
             self.event(Event::Answer { b: 0, a }, 12);
         }
-        self.ballot([1, 0, 0, 1]);
+        self.ballot(0, [1, 0, 0, 1]);
         self.answer(0, 0, [1, 0, 1, 0]);
         self.answer(1, 11, [1, 0, 1, 0]);
     }
 
     fn no_ballots(&mut self) {
         self.heading("an answer in the entry of no ballot: 9; in a faulty record: 42; in the last ballot");
-        let answered = Ballot { cast: [false; 2], answered: true, answer: true };
         for (n, rule, b, number) in [(32, 1, 5, 9), (0, 2, 0, 9), (33, 2, 0, 42), (2, 2, 63, 0)] {
             self.make(Command::MakeHead { n, rule });
-            self.make(Command::MakeBallot(b, answered));
+            self.ballot(b, [0, 0, 1, 1]);
             self.event(Event::Answer { b, a: 1 }, number);
         }
         self.call(Command::ShowBallot(63), &[0, 0, 1, 1]);
@@ -517,6 +535,111 @@ impl Hand {
             let log = written(2, 2, &[&voted[..], &[Event::Answer { b: 0, a }]].concat());
             self.call(Command::Run { limit, log }, &numbers);
             self.call(Command::ShowBallot(0), &[1, 0, 1, 0]);
+        }
+    }
+
+    /// Sets and marks as they stand, whoever wrote them.
+    fn tallies(&mut self) {
+        self.heading(
+            "A look at a ballot answers both sets, how many stations are in each, and the answer if there is one.",
+        );
+        self.made(2, 1, 0, IDLE);
+        for (stands, counts, answered, answer) in [
+            ([0, 0, 0, 0], [0, 0], 0, 0),
+            ([0, 0, 0, 1], [0, 0], 0, 0),
+            ([1, 2, 0, 1], [1, 1], 0, 0),
+            ([1, 2, 1, 0], [1, 1], 1, 0),
+            ([0, 3, 1, 1], [0, 2], 1, 1),
+            ([3, 3, 1, 1], [2, 2], 1, 1),
+            ([0, 0, 1, 1], [0, 0], 1, 1),
+            ([0x8000_0000, 0xffff_fffc, 1, 0], [1, 30], 1, 0),
+            ([u32::MAX, u32::MAX, 1, 1], [32, 32], 1, 1),
+            ([0x5555_5555, 0x00ff_0100, 0, 0], [16, 9], 0, 0),
+        ] {
+            self.ballot(0, stands);
+            let [zero, one] = [stands[0], stands[1]].map(u64::from);
+            self.tally(0, [zero, one, counts[0], counts[1], answered, answer]);
+        }
+        self.beyond();
+        self.no_tallies();
+        self.voters();
+        self.votes_again();
+    }
+
+    fn beyond(&mut self) {
+        self.heading("A bit counts as cast exactly when its set is not empty: numbers from n on too");
+        for (a, zero, one) in [(0, 4, 0), (0, 1 << 31, 0), (1, 0, 4), (1, 0, 0xffff_fffc)] {
+            self.ballot(0, [zero, one, 0, 0]);
+            self.event(Event::Answer { b: 0, a: 1 - a }, 12);
+            self.answer(a, 0, [zero, one, 1, a.into()]);
+        }
+    }
+
+    fn no_tallies(&mut self) {
+        self.heading("It refuses with 42, then 9, and then gives empty sets, counts 0 and no answer.");
+        for b in [0, 4, 5, 63] {
+            self.ballot(b, [7, 8, 1, 1]);
+        }
+        for (n, rule, last) in [(17, 1, 4), (32, 1, 4), (2, 1, 0), (1, 2, 63), (32, 2, 63)] {
+            self.make(Command::MakeHead { n, rule });
+            self.tally(last, [7, 8, 3, 1, 1, 1]);
+            self.no_tally(last + 1, 9);
+        }
+        self.no_tally(255, 9);
+        for (n, rule, b, number) in [
+            (17, 1, 63, 9),
+            (17, 1, 64, 9),
+            (1, 1, 0, 9),
+            (0, 1, 0, 9),
+            (0, 2, 0, 9),
+            (33, 1, 0, 42),
+            (33, 1, 255, 42),
+            (17, 3, 0, 42),
+            (0, 0, 64, 42),
+        ] {
+            self.make(Command::MakeHead { n, rule });
+            self.no_tally(b, number);
+        }
+    }
+
+    /// Stations 0, 1 and 2 cast bits 0 of 4, 5 and 6; then one of them is lost.
+    fn voters(&mut self) {
+        self.heading("who voted which way, from an opening; the voter may be lost since");
+        self.call(Command::Open { n: 3, rule: 2 }, &[0]);
+        let sets = [[1, 0, 1, 0, 0, 0], [1, 2, 1, 1, 0, 0], [5, 2, 2, 1, 0, 0]];
+        for (s, v, after) in [(0, 4, sets[0]), (1, 5, sets[1]), (2, 6, sets[2])] {
+            self.event(Event::Claim { s, v }, 0);
+            self.event(Event::Deliver { t: s, s }, 0);
+            self.event(Event::Step { s }, 0);
+            self.event(Event::Step { s }, 0);
+            self.tally(0, after);
+        }
+        self.event(Event::Lose { s: 2 }, 0);
+        self.tally(0, sets[2]);
+        self.event(Event::Answer { b: 0, a: 1 }, 0);
+        self.tally(0, [5, 2, 2, 1, 1, 1]);
+        self.tally(1, [0; 6]);
+        self.event(Event::Deliver { t: 1, s: 0 }, 0);
+        (0..3).for_each(|_| self.event(STEP, 0));
+        self.call(Command::ShowStation(0), &[6, 0, 1, 0, 3, 4, 1, 0]);
+        self.tally(1, [1, 0, 1, 0, 0, 0]);
+        self.tally(0, [5, 2, 2, 1, 1, 1]);
+    }
+
+    /// Made up: station 0 is in a set already when it votes, its cursor at station 1; it casts bit 0 of 1.
+    fn votes_again(&mut self) {
+        self.heading("a voter that is in a set already: it is in the set of its bit once, and the other set stays");
+        for (before, after) in [
+            ([1, 1], [1, 1, 1, 1]),
+            ([3, 0], [3, 1, 2, 1]),
+            ([0, 2], [0, 3, 0, 2]),
+            ([8, 0xffff_fffe], [8, 0xffff_ffff, 1, 32]),
+        ] {
+            self.made(2, 1, 0, Station { cursor: 1, ..at(Voting, 0) });
+            self.ballot(0, [before[0], before[1], 0, 0]);
+            self.event(STEP, 0);
+            let [zero, one, zeros, ones] = after;
+            self.tally(0, [zero, one, zeros, ones, 0, 0]);
         }
     }
 

@@ -72,6 +72,10 @@ impl Images for Archive {
         bytes::look_all(image, out)
     }
 
+    fn look_ballot(&self, image: &[u8], b: u8, out: &mut [u8]) -> u32 {
+        bytes::look_ballot(image, b, out)
+    }
+
     fn image_report(&self, image: &[u8], events: usize, taken: usize, status: u8, out: &mut [u8]) -> usize {
         bytes::image_report(image, events, taken, status, out)
     }

@@ -3,16 +3,20 @@
 
 use crate::log::Counts;
 use crate::model::Event;
-use crate::record::{Ballot, Look, Record, Station, STAGES};
+use crate::record::{Ballot, Look, Record, Station, Tally, STAGES};
 use crate::text;
 
-pub const BYTES: usize = 899;
-pub const VERSION: u8 = 1;
+pub const BYTES: usize = 1283;
+pub const VERSION: u8 = 2;
 /// Where the entries begin, and the bytes of one.
 pub const STATIONS: usize = 3;
 pub const STATION: usize = 20;
 pub const BALLOTS: usize = 643;
-pub const BALLOT: usize = 4;
+pub const BALLOT: usize = 10;
+/// Where a ballot's marks are: answered, and after it the answer.
+pub const MARKS: usize = 8;
+/// The bytes of a look at a ballot.
+pub const TALLY: usize = 12;
 
 /// No image: another length, another version; a byte that no record has.
 pub const LENGTH: u8 = 80;
@@ -35,10 +39,12 @@ fn station_bytes(station: &Station) -> Vec<u8> {
     bytes
 }
 
-/// 0 was cast, 1 was cast, answered, the answer.
-fn ballot_bytes(ballot: &Ballot) -> [u8; BALLOT] {
+/// The set of 0 and the set of 1, high byte first; answered, the answer.
+fn ballot_bytes(ballot: &Ballot) -> Vec<u8> {
     let Ballot { cast, answered, answer } = *ballot;
-    [cast[0], cast[1], answered, answer].map(u8::from)
+    let mut bytes: Vec<u8> = cast.iter().flat_map(|set| set.to_be_bytes()).collect();
+    bytes.extend([answered, answer].map(u8::from));
+    bytes
 }
 
 /// The record whose image this is, or the number of what is no image.
@@ -63,23 +69,27 @@ fn read_mark(byte: u8) -> Option<bool> {
     [false, true].get(usize::from(byte)).copied()
 }
 
+/// Four bytes from a place on, high byte first.
+fn number(bytes: &[u8], place: usize) -> u32 {
+    bytes[place..place + 4].iter().fold(0, |x, byte| 256 * x + u32::from(*byte))
+}
+
 fn read_station(bytes: &[u8]) -> Option<Station> {
-    let number = |i: usize| bytes[i..i + 4].iter().fold(0, |x, byte| 256 * x + u32::from(*byte));
     Some(Station {
         stage: *STAGES.get(usize::from(bytes[0]))?,
         lost: read_mark(bytes[1])?,
         cursor: bytes[2],
         round: bytes[3],
-        held: number(4),
-        claim: number(8),
-        word: number(12),
-        decision: number(16),
+        held: number(bytes, 4),
+        claim: number(bytes, 8),
+        word: number(bytes, 12),
+        decision: number(bytes, 16),
     })
 }
 
 fn read_ballot(bytes: &[u8]) -> Option<Ballot> {
-    let cast = [read_mark(bytes[0])?, read_mark(bytes[1])?];
-    Some(Ballot { cast, answered: read_mark(bytes[2])?, answer: read_mark(bytes[3])? })
+    let cast = [number(bytes, 0), number(bytes, 4)];
+    Some(Ballot { cast, answered: read_mark(bytes[MARKS])?, answer: read_mark(bytes[MARKS + 1])? })
 }
 
 /// What every operation tests first: the image, then 01's record test.
@@ -129,6 +139,24 @@ pub fn look_all(image: &[u8], room: usize) -> Result<Vec<u8>, u8> {
     match room < 8 * usize::from(record.n) {
         true => Err(30),
         false => Ok((0..record.n).flat_map(|s| look_bytes(record.look(s))).collect()),
+    }
+}
+
+/// The bytes of a look at a ballot: both sets, how many are in each, answered, the answer.
+pub fn tally_bytes(tally: Tally) -> Vec<u8> {
+    let Tally { cast, counts, answered, answer, .. } = tally;
+    let mut bytes: Vec<u8> = cast.iter().flat_map(|set| set.to_be_bytes()).collect();
+    bytes.extend([counts[0], counts[1], u8::from(answered), u8::from(answer)]);
+    bytes
+}
+
+/// A look at a ballot: its bytes, or the number. They need a room of so many bytes.
+pub fn look_ballot(image: &[u8], b: u8, room: usize) -> Result<Vec<u8>, u8> {
+    let tally = decode(image).map_or_else(Tally::refused, |record| record.look_ballot(b));
+    match (tally.number, room < TALLY) {
+        (0, true) => Err(30),
+        (0, false) => Ok(tally_bytes(tally)),
+        (number, _) => Err(number),
     }
 }
 

@@ -7,11 +7,12 @@ use crate::images::Images;
 use crate::judge::{same, Checked};
 use crate::log::Counts;
 use crate::model::Event;
-use crate::record::Look;
+use crate::record::{Look, Tally};
+use crate::voters;
 use std::collections::BTreeMap;
 
 /// The operations, and the numbers that each has to meet.
-pub const DUE: [(&str, &[u8]); 10] = [
+pub const DUE: [(&str, &[u8]); 11] = [
     ("open", &[0, 40, 41, 80]),
     ("claim", &[0, 1, 2, 3, 42, 80, 81]),
     ("deliver", &[0, 1, 2, 4, 5, 42, 80, 81]),
@@ -20,6 +21,7 @@ pub const DUE: [(&str, &[u8]); 10] = [
     ("answer", &[0, 9, 10, 11, 12, 42, 80, 81]),
     ("look", &[0, 1, 42, 80, 81]),
     ("look all", &[0, 30, 42, 80, 81]),
+    ("ballot", &[0, 9, 30, 42, 80, 81]),
     ("report", &[0, 42, 80, 81]),
     ("play", &[0, 1, 2, 3, 4, 5, 6, 7, 8, 9, 10, 11, 12, 20, 21, 22, 23, 24, 25, 26, 40, 41, 80]),
 ];
@@ -44,8 +46,12 @@ pub struct ImageJudge<'a> {
     /// Answers that came twice, and the logs with one that were played.
     pub again: Met,
     pub logs_again: usize,
+    /// Ballots that were looked at, votes and answers, by their sorts.
+    pub voters: Met,
     pub too_small: usize,
+    /// LOOKs beside a history, and looks at a ballot.
     pub histories: usize,
+    pub tallies: usize,
     /// Lists in which two or more stations decided.
     pub shared: usize,
 }
@@ -70,8 +76,18 @@ fn why_42(image: &[u8]) -> &'static str {
 
 impl<'a> ImageJudge<'a> {
     pub fn new(subject: &'a dyn Images) -> ImageJudge<'a> {
-        let (counts, faults, again) = (BTreeMap::new(), BTreeMap::new(), Met::default());
-        ImageJudge { subject, counts, faults, again, logs_again: 0, too_small: 0, histories: 0, shared: 0 }
+        ImageJudge {
+            subject,
+            counts: BTreeMap::new(),
+            faults: BTreeMap::new(),
+            again: Met::default(),
+            logs_again: 0,
+            voters: Met::default(),
+            too_small: 0,
+            histories: 0,
+            tallies: 0,
+            shared: 0,
+        }
     }
 
     fn count(&mut self, operation: &'static str, number: u8, image: &[u8]) {
@@ -81,11 +97,14 @@ impl<'a> ImageJudge<'a> {
         }
     }
 
-    /// An event by its number, and an answer that comes twice by its sort.
-    fn count_event(&mut self, image: &[u8], event: Event, number: u8) {
+    /// An event by its number, and a vote and an answer by their sorts.
+    fn count_event(&mut self, image: &[u8], after: &[u8], event: Event, number: u8) {
         self.count(name(event), number, image);
-        let record = image::decode(image).ok();
-        self.again.add(record.and_then(|record| again::on_record(&record, event, number)));
+        if let (Ok(before), Ok(after)) = (image::decode(image), image::decode(after)) {
+            self.again.add(again::on_record(&before, event, number));
+            let sorts = if number == 0 { voters::played(&before, &after, event) } else { Vec::new() };
+            self.voters.add(sorts);
+        }
     }
 
     /// OPEN over these bytes: the bytes afterwards.
@@ -104,7 +123,7 @@ impl<'a> ImageJudge<'a> {
         let (number, after) = image::event(image, event);
         let mut lent = Guarded::of(image);
         let answer = self.subject.event(lent.lent(), event);
-        self.count_event(image, event, number);
+        self.count_event(image, &after, event, number);
         same("its number", image, number, answer)
             .and_then(|()| lent.holds("the image afterwards", image, &after))
             .map_err(|why| format!("{event:?}: {why}"))?;
@@ -143,6 +162,34 @@ impl<'a> ImageJudge<'a> {
         same("LOOK at all", image, 65_536 * u32::from(number) + written.len() as u32, answer)?;
         out.begins("what LOOK at all wrote", image, &written)?;
         lent.holds("the image that was looked at", image, image)
+    }
+
+    /// A look at a ballot, into a room of so many bytes.
+    pub fn look_ballot(&mut self, image: &[u8], b: u8, room: usize) -> Checked {
+        let model = image::look_ballot(image, b, room);
+        self.count("ballot", model.as_ref().err().copied().unwrap_or(0), image);
+        if let (Ok(_), Ok(record)) = (&model, image::decode(image)) {
+            self.voters.add(voters::looked_at(&record, b));
+        }
+        self.tallied(image, b, room, model)
+    }
+
+    /// A look at a ballot where the history says what it is, into a room of just its bytes.
+    pub fn ballot_told(&mut self, image: &[u8], b: u8, told: Tally) -> Checked {
+        self.tallies += 1;
+        let due = if told.number == 0 { Ok(image::tally_bytes(told)) } else { Err(told.number) };
+        self.tallied(image, b, image::TALLY, due)
+    }
+
+    fn tallied(&mut self, image: &[u8], b: u8, room: usize, due: Result<Vec<u8>, u8>) -> Checked {
+        let number = due.as_ref().err().copied().unwrap_or(0);
+        let written = due.unwrap_or_default();
+        let (mut lent, mut out) = (Guarded::of(image), Guarded::unwritten(room));
+        let answer = self.subject.look_ballot(lent.lent(), b, out.lent());
+        same("a look at a ballot", image, 65_536 * u32::from(number) + written.len() as u32, answer)
+            .and_then(|()| out.begins("what a look at a ballot wrote", image, &written))
+            .and_then(|()| lent.holds("the image that was looked at", image, image))
+            .map_err(|why| format!("ballot {b} into {room} bytes: {why}"))
     }
 
     /// The report of an image, in a room of just its size, of one byte less and of more.

@@ -1,7 +1,7 @@
 //! The images and logs that are compared: random, made up, changed in one place, and reached from an opening.
 
 use crate::generate::{self, accepted, opening, random_list, Rng};
-use crate::image::{self, BALLOT, BALLOTS, BYTES, STATION, STATIONS, VERSION};
+use crate::image::{self, BALLOT, BALLOTS, BYTES, MARKS, STATION, STATIONS, TALLY, VERSION};
 use crate::image_judge::ImageJudge;
 use crate::image_lists::List;
 use crate::image_rows;
@@ -11,7 +11,7 @@ use crate::made_up;
 use crate::model::{Event, Play};
 use crate::record::{Record, Stage};
 
-const KINDS: [fn(&mut ImageJudge, &mut Rng) -> Checked; 12] = [
+const KINDS: [fn(&mut ImageJudge, &mut Rng) -> Checked; 13] = [
     |judge, _| image_rows::check(judge),
     openings,
     other_lengths,
@@ -19,6 +19,7 @@ const KINDS: [fn(&mut ImageJudge, &mut Rng) -> Checked; 12] = [
     made_up_records,
     last_ballots,
     marked_ballots,
+    votes,
     one_change,
     every_place,
     short_lists,
@@ -32,6 +33,14 @@ pub fn compare(judge: &mut ImageJudge, rng: &mut Rng) -> Checked {
 
 // ---- one image through every operation
 
+/// Rooms for a look at a ballot: just enough, one byte less, none, more.
+const ROOMS: [usize; 8] = [TALLY, TALLY, TALLY, TALLY - 1, 0, 1, TALLY + 1, 100];
+
+fn some_ballot(rng: &mut Rng) -> u8 {
+    let any = rng.byte();
+    rng.pick(&[0, 0, 1, 1, 2, 3, 4, 5, 62, 63, 64, any])
+}
+
 /// Station and ballot numbers around the ranges, most of them there.
 fn five_events(rng: &mut Rng, n: u8) -> [Event; 5] {
     let any = rng.byte();
@@ -40,7 +49,7 @@ fn five_events(rng: &mut Rng, n: u8) -> [Event; 5] {
         _ => rng.below(usize::from(n).clamp(1, 32)) as u8,
     };
     let (s, t) = (number(rng), number(rng));
-    let b = rng.pick(&[0, 0, 1, 1, 2, 3, 4, 5, 62, 63, 64, any]);
+    let b = some_ballot(rng);
     [
         Event::Claim { s, v: rng.next() as u32 },
         Event::Deliver { t, s: number(rng) },
@@ -59,7 +68,7 @@ fn any_counts(rng: &mut Rng) -> Counts {
     }
 }
 
-/// The five events, LOOK, LOOK at all and the report.
+/// The five events, LOOK, LOOK at all, a look at a ballot and the report.
 fn through(judge: &mut ImageJudge, rng: &mut Rng, image: &[u8]) -> Checked {
     let n = image.get(1).copied().unwrap_or(0);
     for event in five_events(rng, n) {
@@ -68,7 +77,7 @@ fn through(judge: &mut ImageJudge, rng: &mut Rng, image: &[u8]) -> Checked {
     looked_at(judge, rng, image, n)
 }
 
-/// LOOK, LOOK at all and the report; and the model's own way to a record and back.
+/// LOOK, LOOK at all, a look at a ballot and the report; and the model's own way to a record and back.
 fn looked_at(judge: &mut ImageJudge, rng: &mut Rng, image: &[u8], n: u8) -> Checked {
     if let Ok(record) = image::decode(image) {
         same_bytes("the image of its record", image, image, &image::encode(&record))?;
@@ -76,6 +85,8 @@ fn looked_at(judge: &mut ImageJudge, rng: &mut Rng, image: &[u8], n: u8) -> Chec
     let (any, size) = (rng.byte(), 8 * usize::from(n));
     judge.look(image, rng.pick(&[0, n.wrapping_sub(1), n, any, any % 32, any % 32, any % 4]))?;
     judge.look_all(image, rng.pick(&[size, size, size.saturating_sub(1), size + 1, 0, 255, 256, 300]))?;
+    let b = some_ballot(rng);
+    judge.look_ballot(image, b, rng.pick(&ROOMS))?;
     judge.report(image, any_counts(rng)).map(drop)
 }
 
@@ -86,7 +97,7 @@ fn openings(judge: &mut ImageJudge, rng: &mut Rng) -> Checked {
     for n in 0..=255 {
         for rule in [0, 1, 2, 3, 4, 255] {
             judge.open(&rng.bytes(BYTES), n, rule)?;
-            let size = rng.pick(&[0, 1, 2, 3, 643, 898, 900, 2000]);
+            let size = rng.pick(&[0, 1, 2, 3, 643, 899, 1282, 1284, 2000]);
             judge.open(&rng.bytes(size), n, rule)?;
         }
     }
@@ -103,7 +114,7 @@ fn openings(judge: &mut ImageJudge, rng: &mut Rng) -> Checked {
 fn other_lengths(judge: &mut ImageJudge, rng: &mut Rng) -> Checked {
     for _ in 0..900 {
         let any = rng.below(2000);
-        let size = rng.pick(&[0, 1, 2, 3, 4, 23, 643, 897, 898, 900, 901, 1798, any]);
+        let size = rng.pick(&[0, 1, 2, 3, 4, 23, 643, 653, 898, 899, 900, 1281, 1282, 1284, 1285, 2566, any]);
         let mut image = image::encode(&made_up::record(rng));
         image.resize(size, rng.byte());
         through(judge, rng, &image)?;
@@ -122,7 +133,7 @@ fn any_bytes(judge: &mut ImageJudge, rng: &mut Rng) -> Checked {
         image[STATIONS..BALLOTS]
             .chunks_mut(STATION)
             .for_each(|entry| (entry[0], entry[1]) = (entry[0] % 8, entry[1] % 2));
-        image[BALLOTS..].iter_mut().for_each(|mark| *mark %= 2);
+        image[BALLOTS..].chunks_mut(BALLOT).for_each(|entry| entry[MARKS..].iter_mut().for_each(|mark| *mark %= 2));
         through(judge, rng, &image)?;
         (image[1], image[2]) = (rng.pick(&[1, 1, 2, 3, 8]), rng.pick(&[1, 2]));
         through(judge, rng, &image)?;
@@ -173,15 +184,38 @@ fn some_record(rng: &mut Rng) -> Record {
     Record::run(&log::written(n, rule, &accepted(n, rule, &events)), usize::MAX).0
 }
 
-/// A ballot with any marks, and ANSWERs of it, each on what the one before left.
+/// A ballot with any sets and marks, and looks and ANSWERs of it, each on what the one before left.
 fn marked_ballots(judge: &mut ImageJudge, rng: &mut Rng) -> Checked {
     for _ in 0..4000 {
         let mut record = some_record(rng);
         let b = rng.below(usize::from(record.ballot_count()).max(1));
-        record.ballots[b] = made_up::ballot(rng);
+        record.ballots[b] = made_up::ballot(rng, record.n);
         let mut image = image::encode(&record);
         for _ in 0..4 {
+            judge.look_ballot(&image, b as u8, rng.pick(&ROOMS))?;
             image = judge.event(&image, Event::Answer { b: b as u8, a: rng.pick(&[0, 1]) })?.1;
+        }
+    }
+    Ok(())
+}
+
+/// A station that votes in a ballot with any sets, at times in one of them already, and is lost then; a look at the ballot after each.
+fn votes(judge: &mut ImageJudge, rng: &mut Rng) -> Checked {
+    for _ in 0..5000 {
+        let mut record = some_record(rng);
+        let s = rng.below(usize::from(record.n.clamp(1, 32)));
+        let (finish, round) = (record.rule == 2 && rng.chance(50), rng.pick(&[0, 0, 0, 1, 2, 30, 31]));
+        let station = &mut record.stations[s];
+        (station.stage, station.round) = (if finish { Stage::VotingFinish } else { Stage::Voting }, round);
+        (station.lost, station.cursor) = (false, station.cursor % record.n.max(1));
+        let b = (round * record.rule.min(2) + u8::from(finish)) % 64;
+        let mut ballot = made_up::ballot(rng, record.n);
+        ballot.cast[rng.below(2)] |= u32::from(rng.chance(40)) << s;
+        record.ballots[usize::from(b)] = ballot;
+        let mut image = image::encode(&record);
+        for event in [Event::Step { s: s as u8 }, Event::Lose { s: s as u8 }] {
+            image = judge.event(&image, event)?.1;
+            judge.look_ballot(&image, b, TALLY)?;
         }
     }
     Ok(())
@@ -225,16 +259,23 @@ fn one_place(judge: &mut ImageJudge, rng: &mut Rng, image: &[u8], place: usize) 
             judge.event(&changed, event)?;
         }
         judge.look(&changed, rng.byte() % image[1])?;
+        let b = if place < BALLOTS { some_ballot(rng) } else { ballot_at(place) };
+        judge.look_ballot(&changed, b, TALLY)?;
     }
     let mut changed = image.to_vec();
     changed[place] ^= 1 << rng.below(8);
     looked_at(judge, rng, &changed, image[1])
 }
 
+/// The ballot whose entry has this place.
+fn ballot_at(place: usize) -> u8 {
+    (place.saturating_sub(BALLOTS) / BALLOT) as u8
+}
+
 /// Five events, of the station or the ballot that the place belongs to where there is one.
 fn near(rng: &mut Rng, n: u8, place: usize) -> [Event; 5] {
     let s = (place.saturating_sub(STATIONS) / STATION) as u8;
-    let b = (place.saturating_sub(BALLOTS) / BALLOT) as u8;
+    let b = ballot_at(place);
     let [claim, deliver, step, lose, answer] = five_events(rng, n);
     match (s < n, place >= BALLOTS) {
         (true, _) => {
@@ -294,7 +335,7 @@ fn logs(judge: &mut ImageJudge, rng: &mut Rng) -> Checked {
         }
         one_event_more(judge, rng, n, rule, &events)?;
         bad_openings(judge, rng, &log)?;
-        judge.play(&log, limit, rng.pick(&[0, 1, 643, 898, 900, 2000]))?;
+        judge.play(&log, limit, rng.pick(&[0, 1, 643, 899, 1282, 1284, 2000]))?;
     }
     Ok(())
 }

@@ -7,6 +7,7 @@ use crate::log::{self, Counts, Field};
 use crate::model::{Event, Play};
 use crate::record::Look;
 use crate::text;
+use crate::voters;
 
 /// A list that is played from an opening over some bytes: the image, the history, the log of what was accepted.
 pub struct List {
@@ -43,6 +44,7 @@ impl List {
     fn is_told(&self, judge: &mut ImageJudge, counts: Counts) -> Checked {
         (0..self.play.n).try_for_each(|s| judge.look_told(&self.image, s, self.look(s)))?;
         judge.look_all(&self.image, 8 * usize::from(self.play.n))?;
+        (0..=self.voted()).try_for_each(|b| judge.ballot_told(&self.image, b, voters::told(&self.play, b)))?;
         let text = judge.report(&self.image, counts)?;
         same("the report, by the history", &self.log, text::report(Some(&self.play), counts), text)?;
         self.as_a_log(judge, usize::MAX, counts.status)?;
@@ -50,6 +52,11 @@ impl List {
             true => self.as_a_log(judge, self.events, 26),
             false => self.as_a_log(judge, self.events, 0),
         }
+    }
+
+    /// In how many ballots some station voted.
+    fn voted(&self) -> u8 {
+        (0..self.play.n).map(|s| self.play.voted(s).len()).max().unwrap_or(0) as u8
     }
 
     /// How many stations have decided.

@@ -15,6 +15,8 @@ pub trait Images {
     fn look(&self, image: &[u8], s: u8) -> u64;
     /// The number times 65,536, and the bytes written.
     fn look_all(&self, image: &[u8], out: &mut [u8]) -> u32;
+    /// A look at a ballot: the number times 65,536, and the bytes written.
+    fn look_ballot(&self, image: &[u8], b: u8, out: &mut [u8]) -> u32;
     /// The text's length, 0 where the buffer is too small.
     fn image_report(&self, image: &[u8], events: usize, taken: usize, status: u8, out: &mut [u8]) -> usize;
     /// RUN's status, or 80.

@@ -4,8 +4,10 @@ use crate::again::{self, Met};
 use crate::demand::{self, Seen};
 use crate::log::{self, Counts, Field};
 use crate::model::{Event, Play};
+use crate::record::Record;
 use crate::subject::{Parts, Subject};
 use crate::text;
+use crate::voters;
 use std::collections::BTreeMap;
 
 /// A difference is told in words, with the input in hex.
@@ -26,6 +28,8 @@ pub struct Judge<'a> {
     /// By kind, logs that play an answer again.
     pub again: Met,
     pub seen: Seen,
+    /// Looks at a ballot by the record beside the history.
+    pub tallies: usize,
     pub reports: usize,
     pub too_long: usize,
     pub too_small: usize,
@@ -68,6 +72,7 @@ impl<'a> Judge<'a> {
             counts: BTreeMap::new(),
             again: Met::default(),
             seen: Seen::default(),
+            tallies: 0,
             reports: 0,
             too_long: 0,
             too_small: 0,
@@ -194,12 +199,14 @@ impl<'a> Judge<'a> {
         same_bytes(&what, &[], &pattern(80), &buffer)
     }
 
-    /// A list of events: demand 3, and the log up to each refused event, which then is left out.
+    /// A list of events: demand 3, who voted which way, and the log up to each refused event, which then is left out.
     /// A long log is compared only now and then.
     pub fn list(&mut self, n: u8, rule: u8, events: &[Event]) -> Checked {
         let whole = log::written(n, rule, events);
         demand::check(n, rule, events, &mut self.seen)
             .map_err(|why| format!("demand 3: {why}\n  log, refused events included: {}", hex(&whole)))?;
+        self.voters(n, rule, events)
+            .map_err(|why| format!("request A.2: {why}\n  log, refused events included: {}", hex(&whole)))?;
         let mut play = Play::open(n, rule).map_err(|number| format!("OPEN gives {number}"))?;
         let mut log = log::written(n, rule, &[]);
         let mut played = 0;
@@ -216,6 +223,22 @@ impl<'a> Judge<'a> {
             log.truncate(taken);
         }
         self.report(&log)
+    }
+
+    /// Who voted which way, by the record that a list leaves and by its history: the ballots that an event may have changed, and
+    /// at the list's end all of them.
+    fn voters(&mut self, n: u8, rule: u8, events: &[Event]) -> Checked {
+        let mut play = Play::open(n, rule).map_err(|number| format!("OPEN gives {number}"))?;
+        let (_, mut record) = Record::open(n, rule);
+        for (i, &event) in events.iter().enumerate() {
+            let number = play.event(event);
+            same("its number, by the history and the record", &[], number, record.event(event))?;
+            let changed = voters::touched(&play, event).filter(|_| number == 0 && (i < 200 || i % 16 == 0));
+            self.tallies += usize::from(changed.is_some());
+            changed.map_or(Ok(()), |b| voters::check(&play, &record, b))?;
+        }
+        self.tallies += 65;
+        (0..=64).try_for_each(|b| voters::check(&play, &record, b))
     }
 
     /// Statuses that no log reached.

@@ -26,3 +26,4 @@ pub mod stack;
 pub mod subject;
 pub mod text;
 pub mod timing;
+pub mod voters;

@@ -6,19 +6,23 @@ use crate::log::{written, Field};
 use crate::model::{ceil_log2, Event};
 use crate::record::{Ballot, Record, Stage, Station, STAGES};
 use crate::script::{Command, Script};
+use crate::voters;
 use std::collections::BTreeMap;
 
 /// How often each number was answered.
 pub type Numbers = BTreeMap<usize, usize>;
 
-/// The numbers of events and LOOKs, RUN's statuses, answers that came twice, and the RUNs of logs with one.
+/// The numbers of events, LOOKs and looks at ballots, RUN's statuses, answers that came twice, and the RUNs of logs with one;
+/// the sorts of ballots and votes.
 #[derive(Default)]
 pub struct Counts {
     pub events: Numbers,
     pub looks: Numbers,
+    pub tallies: Numbers,
     pub runs: Numbers,
     pub again: Met,
     pub runs_again: usize,
+    pub voters: Met,
 }
 
 pub fn script(rng: &mut Rng, counts: &mut Counts) -> Script {
@@ -46,6 +50,16 @@ fn call(script: &mut Script, counts: &mut Counts, command: Command) {
             let number = at(&answer, 0);
             *counts.events.entry(number).or_default() += 1;
             counts.again.add(again::on_record(&before, event, number as u8));
+            if number == 0 {
+                counts.voters.add(voters::played(&before, &script.record, event));
+            }
+        }
+        Command::LookBallot(b) => {
+            let number = at(&answer, 0);
+            *counts.tallies.entry(number).or_default() += 1;
+            if number == 0 {
+                counts.voters.add(voters::looked_at(&before, b));
+            }
         }
         Command::Look(_) => *counts.looks.entry(at(&answer, 0)).or_default() += 1,
         Command::Run { log, .. } => {
@@ -100,9 +114,18 @@ fn broken(rng: &mut Rng, n: u8, station: Station) -> Station {
     }
 }
 
-/// A ballot with any marks: it may have an answer that nobody cast.
-pub fn ballot(rng: &mut Rng) -> Ballot {
-    Ballot { cast: [rng.chance(60), rng.chance(60)], answered: rng.chance(60), answer: rng.chance(50) }
+/// A set of stations: nobody, one, some or all of n; only numbers from n on; all 32; any.
+fn set(rng: &mut Rng, n: u8) -> u32 {
+    let below = u32::MAX >> (32 - n.clamp(1, 32));
+    let (any, one) = (rng.next() as u32, 1 << rng.below(usize::from(n.clamp(1, 32))));
+    rng.pick(&[0, 0, 0, 0, one, one, below, any & below, any & below, any & !below, !below, u32::MAX, any])
+}
+
+/// A ballot with any sets and marks, among n stations: the sets may meet, and it may have an answer that nobody cast.
+pub fn ballot(rng: &mut Rng, n: u8) -> Ballot {
+    let (zero, one) = (set(rng, n), set(rng, n));
+    let one = if rng.chance(50) { one & !zero } else { one };
+    Ballot { cast: [zero, one], answered: rng.chance(60), answer: rng.chance(50) }
 }
 
 fn head(rng: &mut Rng) -> (u8, u8) {
@@ -125,7 +148,7 @@ pub fn record(rng: &mut Rng) -> Record {
     }
     for (b, entry) in record.ballots.iter_mut().enumerate() {
         if rng.chance(if rule == 1 && b > 6 { 2 } else { 40 }) {
-            *entry = ballot(rng);
+            *entry = ballot(rng, n);
         }
     }
     for _ in 0..rng.below(3) * rng.below(2) {
@@ -188,28 +211,42 @@ fn play(rng: &mut Rng, script: &mut Script, counts: &mut Counts) {
             break;
         }
         let event = event(rng, &script.record);
-        let (b, near) = (rng.byte() % 64, rng.byte() % 8);
         call(script, counts, Command::Play(event));
-        let s = match event {
-            Event::Claim { s, .. } | Event::Deliver { s, .. } | Event::Step { s } | Event::Lose { s } => s,
-            Event::Answer { b, .. } => {
-                if rng.chance(50) {
-                    call(script, counts, Command::Play(event));
-                }
-                call(script, counts, Command::ShowBallot(b % 64));
-                near
-            }
-        };
-        call(script, counts, Command::ShowStation(s % 32));
-        call(script, counts, Command::Look(s));
-        if rng.chance(20) {
-            call(script, counts, Command::ShowBallot(b));
-            call(script, counts, Command::ShowStation(near));
+        if matches!(event, Event::Answer { .. }) && rng.chance(50) {
+            call(script, counts, Command::Play(event));
         }
+        look_around(rng, script, counts, event);
     }
     if rng.chance(60) {
         script.show_record();
     }
+}
+
+/// What an event has left: the station and the ballot that it is about, and at times another of each.
+fn look_around(rng: &mut Rng, script: &mut Script, counts: &mut Counts, event: Event) {
+    let (any, near) = (rng.byte(), rng.byte() % 8);
+    let (s, b) = match event {
+        Event::Claim { s, .. } | Event::Deliver { s, .. } | Event::Lose { s } => (s, any % 64),
+        Event::Step { s } => (s, ballot_near(rng, &script.record, s)),
+        Event::Answer { b, .. } => (near, b),
+    };
+    call(script, counts, Command::ShowStation(s % 32));
+    call(script, counts, Command::Look(s));
+    call(script, counts, Command::LookBallot(b));
+    if rng.chance(50) {
+        call(script, counts, Command::ShowBallot(b % 64));
+    }
+    if rng.chance(20) {
+        call(script, counts, Command::ShowBallot(any % 64));
+        call(script, counts, Command::LookBallot(any));
+        call(script, counts, Command::ShowStation(near));
+    }
+}
+
+/// A ballot of the round that a station is in.
+fn ballot_near(rng: &mut Rng, record: &Record, s: u8) -> u8 {
+    let k = record.stations[usize::from(s % 32)].round;
+    k.wrapping_mul(record.rule).wrapping_add(rng.pick(&[0, 0, 1]))
 }
 
 /// A settlement reached by RUN under some limit, played on.
@@ -231,6 +268,10 @@ fn reached(rng: &mut Rng, script: &mut Script, counts: &mut Counts) {
     call(script, counts, Command::Run { limit, log });
     for s in 0..n {
         call(script, counts, Command::Look(s));
+    }
+    let ballots = script.record.ballot_count();
+    for b in [0, 1, 2, 3, ballots.wrapping_sub(1), ballots, 64, 255] {
+        call(script, counts, Command::LookBallot(b));
     }
     script.show_record();
     play(rng, script, counts);

@@ -61,7 +61,8 @@ fn print_counts(judge: &Judge) {
          {} supplied steps, {} stations at the bound",
         seen.lists, seen.accepted, seen.refused, seen.deciders, seen.shared, seen.supplied, seen.at_bound
     );
-    print!("{}", seen.again.lines(&again::IN_LISTS));
+    print!("{}", seen.again.lines("ANSWER of", &again::IN_LISTS));
+    println!("{} looks at a ballot by the record beside the history", judge.tallies);
 }
 
 /// Every status that a log can reach was reached, and an answer came again in every way.

@@ -1,11 +1,11 @@
-//! The plain implementation on an image: the record test and LOOK on its struct, which the benchmark times, and the bytes of
-//! that struct, which `--self` compares.
+//! The plain implementation on an image: the record test, LOOK and a look at a ballot on its struct, which the benchmark times,
+//! and the bytes of that struct, which `--self` compares.
 
 use crate::images::Images;
 use crate::model::Event;
 use crate::plain::{if_it_fits, run, write_outcome, Ballot, Outcome, Plain, Settlement, Stage, Station, BLANK};
 
-const BYTES: usize = 899;
+const BYTES: usize = 1283;
 
 impl Settlement {
     /// The record test, 42 where it fails.
@@ -69,6 +69,25 @@ impl Settlement {
         }
         out.len() as u32
     }
+
+    /// A look at a ballot, with the record test before it; the number times 65,536, and the bytes written.
+    pub fn look_ballot(&self, b: u8, out: &mut [u8]) -> u32 {
+        if !self.sound() {
+            return 42 << 16;
+        }
+        if b >= self.ballot_count() {
+            return 9 << 16;
+        }
+        let Some(out) = out.first_chunk_mut::<12>() else {
+            return 30 << 16;
+        };
+        let Ballot { cast: [zero, one], answered, answer } = self.ballots[usize::from(b)];
+        out[..4].copy_from_slice(&zero.to_be_bytes());
+        out[4..8].copy_from_slice(&one.to_be_bytes());
+        let counts = [zero, one].map(|set| set.count_ones() as u8);
+        out[8..].copy_from_slice(&[counts[0], counts[1], answered as u8, (answered && answer) as u8]);
+        12
+    }
 }
 
 fn number(bytes: &[u8], i: usize) -> u32 {
@@ -101,7 +120,7 @@ fn read(image: &[u8]) -> Result<Settlement, u8> {
     if image.len() != BYTES {
         return Err(80);
     }
-    if image[0] != 1 {
+    if image[0] != 2 {
         return Err(81);
     }
     let (n, rule) = (image[1], image[2]);
@@ -110,9 +129,9 @@ fn read(image: &[u8]) -> Result<Settlement, u8> {
     for (station, bytes) in settlement.stations.iter_mut().zip(image[3..643].chunks(20)) {
         *station = read_station(bytes)?;
     }
-    for (ballot, bytes) in settlement.ballots.iter_mut().zip(image[643..].chunks(4)) {
-        let cast = [mark(bytes[0])?, mark(bytes[1])?];
-        *ballot = Ballot { cast, answered: mark(bytes[2])?, answer: mark(bytes[3])? };
+    for (ballot, bytes) in settlement.ballots.iter_mut().zip(image[643..].chunks(10)) {
+        let cast = [number(bytes, 0), number(bytes, 4)];
+        *ballot = Ballot { cast, answered: mark(bytes[8])?, answer: mark(bytes[9])? };
     }
     Ok(settlement)
 }
@@ -131,7 +150,7 @@ fn read_station(bytes: &[u8]) -> Result<Station, u8> {
 }
 
 fn write(settlement: &Settlement, image: &mut [u8]) {
-    image[..3].copy_from_slice(&[1, settlement.n, settlement.rule]);
+    image[..3].copy_from_slice(&[2, settlement.n, settlement.rule]);
     for (station, bytes) in settlement.stations.iter().zip(image[3..643].chunks_mut(20)) {
         bytes[..4].copy_from_slice(&[station.stage as u8, station.lost as u8, station.cursor, station.round]);
         bytes[4..8].copy_from_slice(&station.held.to_be_bytes());
@@ -139,9 +158,10 @@ fn write(settlement: &Settlement, image: &mut [u8]) {
         bytes[12..16].copy_from_slice(&station.word.to_be_bytes());
         bytes[16..].copy_from_slice(&station.decision.to_be_bytes());
     }
-    for (ballot, bytes) in settlement.ballots.iter().zip(image[643..].chunks_mut(4)) {
-        let Ballot { cast, answered, answer } = *ballot;
-        bytes.copy_from_slice(&[cast[0], cast[1], answered, answer].map(u8::from));
+    for (ballot, bytes) in settlement.ballots.iter().zip(image[643..].chunks_mut(10)) {
+        bytes[..4].copy_from_slice(&ballot.cast[0].to_be_bytes());
+        bytes[4..8].copy_from_slice(&ballot.cast[1].to_be_bytes());
+        bytes[8..].copy_from_slice(&[ballot.answered as u8, ballot.answer as u8]);
     }
 }
 
@@ -204,6 +224,10 @@ impl Images for Plain {
 
     fn look_all(&self, image: &[u8], out: &mut [u8]) -> u32 {
         read(image).map_or_else(|number| u32::from(number) << 16, |settlement| settlement.look_all(out))
+    }
+
+    fn look_ballot(&self, image: &[u8], b: u8, out: &mut [u8]) -> u32 {
+        read(image).map_or_else(|number| u32::from(number) << 16, |settlement| settlement.look_ballot(b, out))
     }
 
     fn image_report(&self, image: &[u8], events: usize, taken: usize, status: u8, out: &mut [u8]) -> usize {

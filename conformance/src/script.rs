@@ -4,7 +4,8 @@
 
 use crate::log::{self, Field};
 use crate::model::{length, Event};
-use crate::record::{Ballot, Record, Station, STAGES};
+use crate::record::{Ballot, Record, Station, Tally, STAGES};
+use crate::voters;
 
 #[derive(Clone, Debug)]
 pub enum Command {
@@ -14,6 +15,7 @@ pub enum Command {
     },
     Play(Event),
     Look(u8),
+    LookBallot(u8),
     /// Made up: the number of stations and the rule, a station's entry, a ballot's.
     MakeHead {
         n: u8,
@@ -58,12 +60,12 @@ fn entry_bytes(s: u8, station: &Station) -> Vec<u8> {
     bytes
 }
 
-fn marks(ballot: &Ballot) -> [bool; 4] {
-    [ballot.cast[0], ballot.cast[1], ballot.answered, ballot.answer]
-}
-
-fn marks_number(ballot: &Ballot) -> u8 {
-    marks(ballot).iter().rev().fold(0, |x, mark| 2 * x + u8::from(*mark))
+/// Its marks in one byte, the answer's above that of being answered; the two sets.
+fn ballot_bytes(b: u8, ballot: &Ballot) -> Vec<u8> {
+    let Ballot { cast, answered, answer } = *ballot;
+    let mut bytes = vec![b, u8::from(answered) + 2 * u8::from(answer)];
+    bytes.extend(cast.iter().flat_map(|set| set.to_be_bytes()));
+    bytes
 }
 
 /// Numbers, each after a blank.
@@ -82,9 +84,10 @@ impl Command {
             Open { n, rule } => Field::Opening { n: *n, rule: *rule }.bytes(),
             Play(event) => Field::Event(*event).bytes(),
             Look(s) => framed(b'K', &[*s]),
+            LookBallot(b) => framed(b'L', &[*b]),
             MakeHead { n, rule } => framed(b'N', &[*n, *rule]),
             MakeStation(s, station) => framed(b'S', &entry_bytes(*s, station)),
-            MakeBallot(b, ballot) => framed(b'B', &[*b, marks_number(ballot)]),
+            MakeBallot(b, ballot) => framed(b'B', &ballot_bytes(*b, ballot)),
             ShowHead => framed(b'H', &[]),
             ShowStation(s) => framed(b'E', &[*s]),
             ShowBallot(b) => framed(b'V', &[*b]),
@@ -102,6 +105,7 @@ impl Command {
             Open { n, rule } => format!("open {n} {rule}:"),
             Play(event) => format!("{}:", event_words(*event)),
             Look(s) => format!("look {s}:"),
+            LookBallot(b) => format!("tally {b}:"),
             MakeHead { n, rule } => format!("made up: stations {n} rule {rule}"),
             MakeStation(s, station) => format!("made up: station {s}{}", station_words(station)),
             MakeBallot(b, ballot) => format!("made up: ballot {b}{}", row(&ballot_numbers(ballot))),
@@ -129,6 +133,7 @@ impl Command {
                 let look = record.look(*s);
                 row(&[look.number.into(), look.decided.into(), look.claim.into(), look.votes.into()])
             }
+            LookBallot(b) => row(&tally_numbers(record.look_ballot(*b))),
             MakeHead { n, rule } => {
                 (record.n, record.rule) = (*n, *rule);
                 String::new()
@@ -166,7 +171,7 @@ fn event_words(event: Event) -> String {
 fn station_words(station: &Station) -> String {
     let Station { stage, lost, cursor, round, held, claim, word, decision } = station;
     let mark = if *lost { "lost" } else { "live" };
-    format!(" {stage:?} {mark} cursor {cursor} round {round} held {held} claim {claim} word {word} decision {decision}")
+    format!(" {stage:?} {mark} j {cursor} k {round} held {held} claim {claim} d {word} decision {decision}")
 }
 
 fn station_numbers(station: &Station) -> [u64; 8] {
@@ -176,7 +181,13 @@ fn station_numbers(station: &Station) -> [u64; 8] {
 }
 
 fn ballot_numbers(ballot: &Ballot) -> [u64; 4] {
-    marks(ballot).map(u64::from)
+    let Ballot { cast: [zero, one], answered, answer } = *ballot;
+    [zero.into(), one.into(), answered.into(), answer.into()]
+}
+
+fn tally_numbers(tally: Tally) -> [u64; 7] {
+    let Tally { number, cast: [zero, one], counts: [zeros, ones], answered, answer } = tally;
+    [number.into(), zero.into(), one.into(), zeros.into(), ones.into(), answered.into(), answer.into()]
 }
 
 /// BODY: the body's bytes, "or an empty part at the start where READ refuses".
@@ -206,6 +217,8 @@ fn run(log: &[u8], limit: usize, record: &mut Record) -> String {
     let (left, counts) = Record::run(log, limit);
     let history = log::run(log, limit);
     assert_eq!(counts, history.counts, "RUN by record and by history");
+    let ballots = history.play.iter().flat_map(|play| (0..=64).map(move |b| (play, b)));
+    ballots.for_each(|(play, b)| voters::check(play, &left, b).expect("a look at a ballot by record and by history"));
     for s in 0..left.n {
         let look = left.look(s);
         let play = history.play.as_ref().expect("stations are opened");

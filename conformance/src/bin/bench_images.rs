@@ -2,7 +2,7 @@
 //! Nothing here fails on speed. `--self` sets the plain implementation on bytes beside that on its struct.
 
 use conformance::generate::{long_list, Rng};
-use conformance::image::{encode, BYTES};
+use conformance::image::{encode, BYTES, TALLY};
 use conformance::images::Images;
 use conformance::log::written;
 use conformance::model::Event;
@@ -40,6 +40,7 @@ fn rows(library: &(impl Images + Sync)) {
     for n in SIZES {
         look(library, n);
         look_all(library, n);
+        look_ballot(library, n);
     }
     open(library, 32);
     stacks(library);
@@ -109,6 +110,15 @@ fn look_all(library: &impl Images, n: u8) {
     row(format!("LOOK at all {n} stations, rule 2"), BATCH, &mut by_library, &mut by_plain);
 }
 
+fn look_ballot(library: &impl Images, n: u8) {
+    let (image, settlement) = settled(library, n, 2);
+    let (mut out, mut plain_out) = ([0; TALLY], [0; TALLY]);
+    let ballots = || (0..64).cycle().take(BATCH);
+    let mut by_library = || ballots().for_each(|b| done(library.look_ballot(black_box(&image), b, &mut out)));
+    let mut by_plain = || ballots().for_each(|b| done(black_box(&settlement).look_ballot(b, &mut plain_out)));
+    row(format!("LOOK at a ballot, {n} stations, rule 2"), BATCH, &mut by_library, &mut by_plain);
+}
+
 fn open(library: &impl Images, n: u8) {
     let (mut image, mut settlement) = opened(library, n, 2);
     let mut by_library = || (0..BATCH).for_each(|_| done(library.open(&mut image, black_box(n), 2)));
@@ -132,9 +142,10 @@ fn stacks(library: &(impl Images + Sync)) {
         events.iter().for_each(|&event| done(library.event(&mut image, event)));
     });
     let look_all = stack::bytes_used(|| done(library.look_all(&image, &mut vec![0; 256])));
+    let look_ballot = stack::bytes_used(|| done(library.look_ballot(&image, 0, &mut vec![0; TALLY])));
     let report = stack::bytes_used(|| done(library.image_report(&image, 0, 0, 0, &mut vec![0; 4096])));
     let play = stack::bytes_used(|| done(library.play(&log, usize::MAX, &mut vec![0; BYTES])));
-    println!("stack: an event {event} bytes, LOOK at all {look_all}, report {report}, play {play}");
+    println!("stack: an event {event} bytes, LOOK at all {look_all}, at a ballot {look_ballot}, report {report}, play {play}");
 }
 
 /// Keeps an answer that nobody needs.

@@ -8,6 +8,7 @@ use conformance::image_kinds;
 use conformance::images::Images;
 use conformance::judge::Checked;
 use conformance::plain::Plain;
+use conformance::voters;
 use std::process::ExitCode;
 use std::time::Instant;
 
@@ -52,21 +53,23 @@ fn choose(plain: bool) -> Option<(&'static str, &'static dyn Images)> {
 fn print_counts(judge: &ImageJudge) {
     println!("\nOperations on images by number:\n{}", judge.table());
     judge.faults.iter().for_each(|(why, count)| println!("42 for {why}: {count}"));
-    print!("{}", judge.again.lines(&again::ON_RECORDS));
+    print!("{}", judge.again.lines("ANSWER of", &again::ON_RECORDS));
     println!("{} logs play an answer again", judge.logs_again);
+    print!("{}", voters::lines(&judge.voters));
     println!(
-        "{} rooms too small for a text; {} LOOKs beside a history; two or more stations decided in {} lists\n",
-        judge.too_small, judge.histories, judge.shared
+        "{} rooms too small for a text; {} LOOKs and {} looks at a ballot beside a history; two or more stations decided in {} lists\n",
+        judge.too_small, judge.histories, judge.tallies, judge.shared
     );
 }
 
-/// Every number of every operation was met often enough, and so were 42 for every reason and answers that come twice.
+/// Every number of every operation was met often enough, and so were 42 for every reason, answers that come twice, and every sort
+/// of ballots and votes.
 fn complete(judge: &ImageJudge) -> Checked {
     let missing = judge.missing();
     let rare: Vec<_> = judge.faults.iter().filter(|(_, count)| **count < LEAST).collect();
-    let again = judge.again.missing(&again::ON_RECORDS, LEAST);
-    if !missing.is_empty() || !rare.is_empty() || !again.is_empty() {
-        return Err(format!("met fewer than {LEAST} times: {missing:?} {rare:?} {again:?}"));
+    let sorts = [judge.again.missing(&again::ON_RECORDS, LEAST), voters::missing(&judge.voters, LEAST)].concat();
+    if !missing.is_empty() || !rare.is_empty() || !sorts.is_empty() {
+        return Err(format!("met fewer than {LEAST} times: {missing:?} {rare:?} {sorts:?}"));
     }
     if judge.logs_again < LEAST {
         return Err(format!("fewer than {LEAST} logs play an answer again"));

@@ -6,6 +6,7 @@ use conformance::by_hand;
 use conformance::generate::Rng;
 use conformance::made_up::{self, Counts, Numbers};
 use conformance::script::{Script, ROOM};
+use conformance::voters;
 use std::fs;
 use std::io::{self, Read, Write};
 use std::path::Path;
@@ -17,11 +18,12 @@ const SCRIPTS: usize = 60;
 const PROGRAM: &str = "target/bin/lent_case";
 const CRATE: &str = "crates/lent_case";
 
-/// Numbers that an event or LOOK of a made-up record has to meet, and RUN's statuses under small limits.
+/// Numbers that an event, LOOK or a look at a ballot of a made-up record has to meet, and RUN's statuses under small limits.
 const EVENTS: [usize; 14] = [0, 1, 2, 3, 4, 5, 6, 7, 8, 9, 10, 11, 12, 42];
 const LOOKS: [usize; 3] = [0, 1, 42];
+const TALLIES: [usize; 3] = [0, 9, 42];
 const RUNS: [usize; 2] = [0, 26];
-/// Each sort of answers that come twice so often at least, and logs with one.
+/// Each sort of answers that come twice so often at least, and logs with one; and each sort of ballots, votes and answers.
 const LEAST: usize = 20;
 
 fn main() -> ExitCode {
@@ -70,19 +72,26 @@ fn compare() -> Result<String, String> {
     }
     met("an event", &counts.events, &EVENTS)?;
     met("LOOK", &counts.looks, &LOOKS)?;
+    met("a look at a ballot", &counts.tallies, &TALLIES)?;
     met("RUN", &counts.runs, &RUNS)?;
-    met_again(&counts)?;
-    let table =
-        |numbers: &Numbers| -> String { numbers.iter().map(|(number, count)| format!(" {number}: {count}")).collect() };
+    met_often(&counts)?;
     println!(
         "lent_case beside document 01: the stored script, {} lines; {SCRIPTS} random ones, {lines} lines",
         stored.lines.len()
     );
+    print_counts(&counts);
+    Ok(format!("{:.1} seconds, no difference", start.elapsed().as_secs_f64()))
+}
+
+fn print_counts(counts: &Counts) {
+    let table =
+        |numbers: &Numbers| -> String { numbers.iter().map(|(number, count)| format!(" {number}: {count}")).collect() };
     println!("events by number:{}", table(&counts.events));
     println!("LOOKs by number:{}", table(&counts.looks));
+    println!("looks at a ballot by number:{}", table(&counts.tallies));
     println!("RUNs by status:{}; {} of logs that play an answer again", table(&counts.runs), counts.runs_again);
-    print!("{}", counts.again.lines(&ON_RECORDS));
-    Ok(format!("{:.1} seconds, no difference", start.elapsed().as_secs_f64()))
+    print!("{}", counts.again.lines("ANSWER of", &ON_RECORDS));
+    print!("{}", voters::lines(&counts.voters));
 }
 
 fn met(what: &str, numbers: &Numbers, due: &[usize]) -> Result<(), String> {
@@ -92,8 +101,8 @@ fn met(what: &str, numbers: &Numbers, due: &[usize]) -> Result<(), String> {
     }
 }
 
-fn met_again(counts: &Counts) -> Result<(), String> {
-    let rare = counts.again.missing(&ON_RECORDS, LEAST);
+fn met_often(counts: &Counts) -> Result<(), String> {
+    let rare = [counts.again.missing(&ON_RECORDS, LEAST), voters::missing(&counts.voters, LEAST)].concat();
     match rare.is_empty() && counts.runs_again >= LEAST {
         true => Ok(()),
         false => Err(format!("fewer than {LEAST} times: {rare:?}, or a RUN that plays an answer again")),
