@@ -42,12 +42,14 @@ enum {
     DAGMUIZE_STATIONS = 40, /* no station, or more than 32 */
     DAGMUIZE_RULE = 41, /* a rule other than 1 and 2 */
     DAGMUIZE_RECORD = 42, /* made-up bytes: a record outside its ranges, or a STEP that takes answer 0 from the last ballot */
-    DAGMUIZE_IMAGE_LENGTH = 80, /* an image has 899 bytes, no more and no fewer */
-    DAGMUIZE_IMAGE_VERSION = 81 /* the image's first byte is another version than 1 */
+    DAGMUIZE_IMAGE_LENGTH = 80, /* an image has 1,283 bytes, no more and no fewer */
+    DAGMUIZE_IMAGE_VERSION = 81 /* the image's first byte is another version than 2 */
 };
 
 /* A settlement is an image: this many bytes that the caller keeps, on the stack, in a file or in a database. Its layout: README.md. */
-#define DAGMUIZE_IMAGE_BYTES 899
+#define DAGMUIZE_IMAGE_BYTES 1283
+/* Bytes that dagmuize_look_ballot writes. */
+#define DAGMUIZE_LOOK_BALLOT_BYTES 12
 /* Bytes that are always enough, for dagmuize_look_all and for a report. */
 #define DAGMUIZE_LOOK_ALL_BYTES 256
 #define DAGMUIZE_REPORT_BYTES 24576
@@ -94,6 +96,24 @@ static inline uint64_t dagmuize_look_of(const uint8_t *out, uint8_t s) {
     for (size_t i = 0; i < 8; i++) look = look << 8 | out[8 * (size_t)s + i];
     return look;
 }
+
+/* A look at ballot b: who voted which way, lost since or not. Twelve bytes from the start of out: the set of stations that cast 0 and the set of those
+   that cast 1 (four bytes each, high byte first; station s is bit s), how many are in each, answered (0 or 1), the answer (0 where there is none).
+   The answer is 65,536 times the number (80, 81, 42, 9, then 30 where out has fewer than 12 bytes), plus the bytes written. Refused: no byte is
+   written and the count is 0. */
+uint32_t dagmuize_look_ballot(const uint8_t *image, size_t image_len, uint8_t b, uint8_t *out, size_t out_len);
+
+/* What dagmuize_look_ballot wrote: the set of stations that cast bit a, 0 or 1; whether station s is in a set; how many cast bit a; whether the ballot
+   is answered; its answer. */
+static inline uint32_t dagmuize_ballot_set(const uint8_t *out, uint8_t a) {
+    uint32_t set = 0;
+    for (size_t i = 0; i < 4; i++) set = set << 8 | out[4 * (size_t)a + i];
+    return set;
+}
+static inline int dagmuize_ballot_has(uint32_t set, uint8_t s) { return s < 32 && (set >> s & 1) != 0; }
+static inline uint8_t dagmuize_ballot_count(const uint8_t *out, uint8_t a) { return out[8 + (size_t)a]; }
+static inline int dagmuize_ballot_answered(const uint8_t *out) { return out[10]; }
+static inline uint8_t dagmuize_ballot_answer(const uint8_t *out) { return out[11]; }
 
 /* The report of an image, written to the start of out: the text of `./settle` with these events, taken and status in its first line. Its length in
    bytes, or 0 and nothing written where it does not fit. An image that is refused (80, 81, 42) has the text of the blank settlement with events 0,

@@ -4,10 +4,13 @@
 //! asks anything of its arguments, so all of them are safe: a wrapper takes slices apart, and no more.
 
 /// The length of an image in bytes.
-pub const IMAGE_BYTES: usize = 899;
+pub const IMAGE_BYTES: usize = 1283;
 
 /// The bytes that are always enough for what [`look_all`] writes.
 pub const LOOK_ALL_BYTES: usize = 256;
+
+/// The bytes that [`look_ballot`] writes.
+pub const LOOK_BALLOT_BYTES: usize = 12;
 
 /// The bytes that are always enough for a report.
 pub const REPORT_BYTES: usize = 24_576;
@@ -21,6 +24,7 @@ extern "C" {
     fn dagmuize_answer(image: *mut u8, image_len: usize, b: u8, a: u8) -> u8;
     fn dagmuize_look(image: *const u8, image_len: usize, s: u8) -> u64;
     fn dagmuize_look_all(image: *const u8, image_len: usize, out: *mut u8, out_len: usize) -> u32;
+    fn dagmuize_look_ballot(image: *const u8, image_len: usize, b: u8, out: *mut u8, out_len: usize) -> u32;
     fn dagmuize_image_report(
         image: *const u8,
         image_len: usize,
@@ -91,6 +95,12 @@ pub fn look(image: &[u8], s: u8) -> u64 {
 /// LOOK at every station, eight bytes each: 65,536 times the number, plus the bytes written.
 pub fn look_all(image: &[u8], out: &mut [u8]) -> u32 {
     unsafe { dagmuize_look_all(image.as_ptr(), image.len(), out.as_mut_ptr(), out.len()) }
+}
+
+/// A look at ballot b, in twelve bytes: the stations that cast 0 and those that cast 1 (masks of four bytes, high byte first),
+/// how many each has, answered and the answer (0 or 1). 65,536 times the number, plus the bytes written.
+pub fn look_ballot(image: &[u8], b: u8, out: &mut [u8]) -> u32 {
+    unsafe { dagmuize_look_ballot(image.as_ptr(), image.len(), b, out.as_mut_ptr(), out.len()) }
 }
 
 /// The report of an image with these events, taken and status: its length, or 0 where it does not fit.

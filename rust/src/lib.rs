@@ -28,6 +28,11 @@
 //! hold.lose(2)?;
 //! assert_eq!(hold.step(2).unwrap_err().number(), 2);
 //!
+//! // who voted which way, lost since or not
+//! let tally = hold.look_ballot(0)?;
+//! assert_eq!(tally.zero.stations().collect::<Vec<_>>(), [0, 2]);
+//! assert_eq!((tally.one.count(), tally.answer), (1, None));
+//!
 //! // ballot 0 settles on 0, ballot 1 on 1: both bits of tablet 2's number
 //! hold.answer(0, 0)?;
 //! for tablet in [0, 1] {
@@ -45,7 +50,7 @@
 //! assert_eq!(standings[1], standings[0]);
 //! assert_eq!(standings[2], Standing { decided: None, votes: 1 });
 //!
-//! // 899 bytes to keep, and what is no image is turned away
+//! // 1,283 bytes to keep, and what is no image is turned away
 //! let mut kept = hold.to_bytes();
 //! assert_eq!(Settlement::from_bytes(&kept)?, hold);
 //! kept[0] = 9;
@@ -69,6 +74,7 @@ mod refusal;
 mod rule;
 mod settlement;
 mod standing;
+mod tally;
 mod text;
 
 pub use field::Field;
@@ -78,4 +84,5 @@ pub use refusal::Refusal;
 pub use rule::Rule;
 pub use settlement::Settlement;
 pub use standing::Standing;
+pub use tally::{Tally, Voters};
 pub use text::Unclear;

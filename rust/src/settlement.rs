@@ -2,12 +2,13 @@
 
 use std::fmt;
 
-use crate::bytes::{self, IMAGE_BYTES, LOOK_ALL_BYTES, REPORT_BYTES};
+use crate::bytes::{self, IMAGE_BYTES, LOOK_ALL_BYTES, LOOK_BALLOT_BYTES, REPORT_BYTES};
 use crate::refusal::Refusal;
 use crate::rule::Rule;
 use crate::standing::Standing;
+use crate::tally::Tally;
 
-/// Stations and ballots, kept as the 899 bytes of an image. A refused event leaves it as it was.
+/// Stations and ballots, kept as the 1,283 bytes of an image. A refused event leaves it as it was.
 #[derive(Clone, PartialEq, Eq, Hash)]
 pub struct Settlement {
     image: [u8; IMAGE_BYTES],
@@ -64,6 +65,15 @@ impl Settlement {
         Refusal::unless_accepted((answer >> 16) as u8)?;
         let told = |eight: &[u8]| Standing::told(eight.iter().fold(0, |x, byte| x << 8 | u64::from(*byte)));
         out[..(answer & 0xffff) as usize].chunks_exact(8).map(told).collect()
+    }
+
+    /// A look at ballot b: who cast 0, who cast 1, and the answer if there is one. A vote stands though its voter is lost
+    /// later. Refused: 9.
+    pub fn look_ballot(&self, b: u8) -> Result<Tally, Refusal> {
+        let mut out = [0; LOOK_BALLOT_BYTES];
+        let answer = bytes::look_ballot(&self.image, b, &mut out);
+        Refusal::unless_accepted((answer >> 16) as u8)?;
+        Ok(Tally::told(out))
     }
 
     /// The text of `./settle`, with these events, bytes taken and status in its first line.
@@ -170,15 +180,65 @@ mod tests {
         assert_eq!(settlement, before);
     }
 
-    /// Ballot 0's entry begins at 643: 0 was cast, 1 was cast, answered, the answer.
+    /// Ballot 0's entry begins at 643: who cast 0 in four bytes, who cast 1 in four, answered, the answer.
     #[test]
     fn a_made_up_answer_that_nobody_cast_is_an_answer() {
         let mut image = Settlement::open(2, Rule::ByStation).expect("2 and rule 1 are fine").to_bytes();
-        for (marks, [zero, one]) in [([0, 0, 1, 0], [0, 11]), ([0, 1, 1, 0], [0, 11]), ([1, 0, 1, 1], [11, 0])] {
-            image[643..647].copy_from_slice(&marks);
+        let [nobody, both] = [[0; 4], [0, 0, 0, 3]];
+        for (cast, marks, due) in [
+            ([nobody, nobody], [1, 0], [0, 11]),
+            ([nobody, both], [1, 0], [0, 11]),
+            ([both, nobody], [1, 1], [11, 0]),
+            ([both, both], [1, 1], [11, 0]),
+        ] {
+            let entry = [&cast.concat()[..], &marks].concat();
+            image[643..653].copy_from_slice(&entry);
             let numbers = [0, 1].map(|a| bytes::answer(&mut image, 0, a));
-            assert_eq!((numbers, &image[643..647]), ([zero, one], &marks[..]));
+            assert_eq!((numbers, &image[643..653]), (due, &entry[..]));
         }
+    }
+
+    /// Three stations by claim: stations 0 and 2 cast 0, station 1 casts 1.
+    #[test]
+    fn who_voted_which_way_is_shown_though_a_voter_is_lost() {
+        let mut settlement = Settlement::open(3, Rule::ByClaim).expect("3 and rule 2 are fine");
+        for (s, v) in [(0, 4), (1, 5), (2, 6)] {
+            settlement.claim(s, v).expect("idle");
+            settlement.deliver(s, s).expect("claimed");
+            settlement.step(s).expect("its claim is held");
+            settlement.step(s).expect("it votes");
+        }
+        settlement.lose(2).expect("live");
+        let tally = settlement.look_ballot(0).expect("there is ballot 0");
+        assert_eq!((tally.zero.mask(), tally.one.mask(), tally.answer), (5, 2, None));
+        assert_eq!((tally.zero.count(), tally.one.count(), tally.votes()), (2, 1, 3));
+        settlement.answer(0, 0).expect("0 was cast");
+        assert_eq!(settlement.look_ballot(0), Ok(Tally { answer: Some(false), ..tally }));
+        let last = settlement.look_ballot(63).expect("there is ballot 63");
+        assert_eq!((last.votes(), last.answer), (0, None));
+        assert_eq!([number(settlement.look_ballot(64)), number(settlement.look_ballot(255))], [9; 2]);
+        assert_eq!(number(decided().look_ballot(0)), 9);
+    }
+
+    /// 80, 81, 42 and 9 go before 30, and a refused look writes no byte.
+    #[test]
+    fn a_look_at_a_ballot_needs_twelve_bytes() {
+        let mut image = Settlement::open(2, Rule::ByStation).expect("2 and rule 1 are fine").to_bytes();
+        image[646] = 3;
+        let look = |image: &[u8], b: u8, room: usize| {
+            let mut out = [7; 14];
+            let answer = bytes::look_ballot(image, b, &mut out[..room]);
+            (answer, out)
+        };
+        let written = [0, 0, 0, 3, 0, 0, 0, 0, 2, 0, 0, 0, 7, 7];
+        assert_eq!([look(&image, 0, 12), look(&image, 0, 14)], [(12, written); 2]);
+        assert_eq!([look(&image, 0, 11), look(&image, 0, 0)], [(30 << 16, [7; 14]); 2]);
+        assert_eq!([look(&image, 1, 14), look(&image, 1, 0)], [(9 << 16, [7; 14]); 2]);
+        assert_eq!(look(&image[..899], 1, 0), (80 << 16, [7; 14]));
+        image[651] = 2;
+        assert_eq!(look(&image, 1, 0), (42 << 16, [7; 14]));
+        image[0] = 1;
+        assert_eq!(look(&image, 1, 0), (81 << 16, [7; 14]));
     }
 
     #[test]
@@ -192,10 +252,11 @@ mod tests {
             number(Settlement::from_bytes(&image))
         };
         assert_eq!(number(Settlement::from_bytes(&image[1..])), 80);
-        assert_eq!(number(Settlement::from_bytes(&[])), 80);
-        assert_eq!(with(0, 2), 81);
+        // 899 bytes were an image of version 1
+        assert_eq!([number(Settlement::from_bytes(&[])), number(Settlement::from_bytes(&image[..899]))], [80; 2]);
+        assert_eq!([with(0, 1), with(0, 3)], [81; 2]);
         // 33 stations, rule 3, a stage that there is not, a cursor past the stations, a mark that is neither 0 nor 1
-        assert_eq!([with(1, 33), with(2, 3), with(3, 8), with(5, 1), with(898, 2)], [42; 5]);
+        assert_eq!([with(1, 33), with(2, 3), with(3, 8), with(5, 1), with(1282, 2)], [42; 5]);
     }
 
     /// Rule 2: an idle station with round 32 passes the record test, until it votes.

@@ -1,6 +1,6 @@
 //! Events on a settlement beside the same events as a log: the same numbers, and the same bytes after each.
 
-use dagmuize::{Field, Fields, Log, Refusal, Rule, Settlement};
+use dagmuize::{Field, Fields, Log, Refusal, Rule, Settlement, Tally};
 
 /// Numbers that look random.
 struct Rng(u64);
@@ -71,8 +71,22 @@ fn announce(settlement: &mut Settlement, log: &mut Log, ballot: u8) -> bool {
     true
 }
 
-/// A list of events from an opening; counts the numbers met, and the ballots that were answered again.
-fn compare_list(rng: &mut Rng, n: u8, rule: Rule, met: &mut [usize; 256]) -> usize {
+/// Who voted which way: a station is in as many sets as it has votes, and in at most one of each ballot. So many votes in all.
+fn voters_and_votes(settlement: &Settlement) -> usize {
+    let tallies: Vec<Tally> = (0..=64).map_while(|b| settlement.look_ballot(b).ok()).collect();
+    assert!(tallies.iter().all(|tally| tally.zero.mask() & tally.one.mask() == 0), "the sets never meet");
+    let standings = settlement.look_all().expect("it is from an opening");
+    for (s, standing) in (0..).zip(&standings) {
+        let voted = tallies.iter().filter(|tally| tally.zero.contains(s) || tally.one.contains(s)).count();
+        assert_eq!(voted, usize::from(standing.votes), "station {s}");
+    }
+    let votes = standings.iter().map(|standing| usize::from(standing.votes)).sum();
+    assert_eq!(tallies.iter().map(|tally| usize::from(tally.votes())).sum::<usize>(), votes);
+    votes
+}
+
+/// A list of events from an opening; counts the numbers met, the votes, and the ballots that were answered again.
+fn compare_list(rng: &mut Rng, n: u8, rule: Rule, met: &mut [usize; 256], votes: &mut usize) -> usize {
     let mut settlement = Settlement::open(n, rule).expect("1 to 4 stations");
     let mut log = Log::new();
     log.put(&Field::Open { n, rule: rule.number() }).expect("an opening is no note");
@@ -84,6 +98,7 @@ fn compare_list(rng: &mut Rng, n: u8, rule: Rule, met: &mut [usize; 256]) -> usi
             again += usize::from(announce(&mut settlement, &mut log, rng.below(4)));
         }
     }
+    *votes += voters_and_votes(&settlement);
     assert_eq!(Settlement::from_bytes(&settlement.to_bytes()), Ok(settlement));
     again
 }
@@ -92,12 +107,13 @@ fn compare_list(rng: &mut Rng, n: u8, rule: Rule, met: &mut [usize; 256]) -> usi
 fn an_event_does_on_a_settlement_what_it_does_in_a_log() {
     let mut rng = Rng(20_261_116);
     let mut met = [0; 256];
-    let mut again = 0;
+    let (mut again, mut votes) = (0, 0);
     for _ in 0..200 {
         let n = 1 + rng.below(4);
-        again += compare_list(&mut rng, n, Rule::ByStation, &mut met);
-        again += compare_list(&mut rng, n, Rule::ByClaim, &mut met);
+        again += compare_list(&mut rng, n, Rule::ByStation, &mut met, &mut votes);
+        again += compare_list(&mut rng, n, Rule::ByClaim, &mut met, &mut votes);
     }
+    assert!(votes > 500, "stations vote often: {votes}");
     assert!(again > 300, "answers come again often: {again}");
     assert!(met[..=12].iter().all(|times| *times > 50), "0 to 12 are met often: {:?}", &met[..=12]);
     assert!(met[13..].iter().all(|times| *times == 0), "no other number is met");
