@@ -1,5 +1,6 @@
 //! `./log`, for people who keep logs. A verb is a file of its own and a row of `VERBS`.
 
+mod ballots;
 mod make;
 mod show;
 #[cfg(test)]
@@ -12,10 +13,10 @@ use std::process::ExitCode;
 
 use verb::{Answer, Verb};
 
-const VERBS: [Verb; 2] = [show::VERB, make::VERB];
+const VERBS: [Verb; 3] = [show::VERB, make::VERB, ballots::VERB];
 
 const ABOUT: &str = "\
-./log VERB ..: shows and makes logs of events. The number of a refusal is said with its words.
+./log VERB ..: shows and makes logs of events, and shows who voted. The number of a refusal is said with its words.
 ";
 
 const TEXT: &str = "\

@@ -1,9 +1,11 @@
-//! show and make on random logs, from a fixed seed.
+//! show, make and ballots on random logs, from a fixed seed.
 
-use dagmuize::{bytes, Field, Log};
+use dagmuize::{bytes, Field, Log, Settlement};
 
+use crate::ballots::voted;
 use crate::make::made;
 use crate::show::shown;
+use crate::verb::Answer;
 
 /// Numbers that look random.
 struct Rng(u64);
@@ -116,6 +118,76 @@ fn an_answer_that_comes_again_stops_nothing_and_the_other_bit_does() {
         "step 0                  # 41",
     ];
     assert!(text.ends_with(&lines.map(|line| format!("{line}\n")).concat()), "{text}");
+}
+
+#[test]
+fn the_ballots_with_a_vote_are_shown_and_then_what_stops_the_log() {
+    let claims = "open 3 2\nclaim 0 4\nclaim 1 5\nclaim 2 6\ndeliver 0 0\ndeliver 1 1\ndeliver 2 2\n";
+    let votes = "step 0\nstep 0\nstep 1\nstep 1\nstep 2\nstep 2\nlose 2\nanswer 0 0\n";
+    let on = "deliver 2 0\nstep 0\nstep 0\nstep 0\nstep 0\n";
+    let log = made(format!("{claims}{votes}{on}lose 2\nstep 1\n").as_bytes()).out;
+    let lines =
+        ["ballot 0  cast 0: 0 2 (2)  cast 1: 1 (1)  answer 0", "ballot 1  cast 0: 0 (1)    cast 1: - (0)  answer -"];
+    let [first, second] = lines.map(|line| format!("{line}\n"));
+    let shown = |log: &[u8]| (String::from_utf8(voted(log).out).expect("it is ASCII"), voted(log).wrong);
+    assert_eq!(shown(&log[..77]), (first.clone(), None));
+    assert_eq!(shown(&log[..98]), (first.clone() + &second, None));
+    let wrong = "byte 98: 2: the station is lost (of a DELIVER, the receiver)";
+    assert_eq!(shown(&log), (first + &second, Some(wrong.to_string())));
+}
+
+#[test]
+fn a_log_without_votes_has_no_lines() {
+    for (text, wrong) in
+        [("", "byte 0: 20: "), ("step 0", "byte 0: 24: "), ("open 33 1", "byte 0: 40: "), ("open 2 1", "")]
+    {
+        let Answer { out, wrong: said } = voted(&made(text.as_bytes()).out);
+        assert_eq!((out.is_empty(), said.is_some()), (true, !wrong.is_empty()), "{text}");
+        assert!(said.unwrap_or_default().starts_with(wrong), "{text}");
+    }
+}
+
+/// A log of accepted events, and at its end one that may be refused.
+fn accepted(rng: &mut Rng) -> Vec<u8> {
+    let opening = [&b"open 3 1\n"[..], b"open 3 2\n"][rng.below(2)];
+    let claims = b"claim 0 4\nclaim 1 5\nclaim 2 6\ndeliver 0 0\ndeliver 1 1\ndeliver 2 2\n";
+    let mut log = made(&[opening, claims].concat()).out;
+    for left in (0..150).rev() {
+        let field = rng.field();
+        // few are lost, so that many vote
+        if matches!(field, Field::Lose { .. }) && rng.below(9) > 0 {
+            continue;
+        }
+        let mut longer = Log::new();
+        longer.put(&field).expect("its note has at most 64 bytes");
+        let longer = [&log[..], longer.as_bytes()].concat();
+        if left == 0 || bytes::status(&longer, longer.len()) == 0 {
+            log = longer;
+        }
+    }
+    log
+}
+
+/// A log that stops says where and why, and the lines have every vote of the stations.
+#[test]
+fn ballots_shows_every_vote_of_random_logs() {
+    let mut rng = Rng(7);
+    let (mut votes, mut stopped) = (0, 0);
+    for _ in 0..2000 {
+        let log = accepted(&mut rng);
+        let shown = voted(&log);
+        let (status, taken) = (bytes::status(&log, log.len()), bytes::taken(&log, log.len()));
+        assert_eq!(shown.wrong.is_some(), status != 0);
+        assert!(shown.wrong.is_none_or(|wrong| wrong.starts_with(&format!("byte {taken}: {status}: "))));
+        let standings = Settlement::play(&log, log.len()).settlement.look_all().expect("it is opened");
+        let cast: usize = standings.iter().map(|standing| usize::from(standing.votes)).sum();
+        let text = String::from_utf8(shown.out).expect("it is ASCII");
+        let counts = text.split(['(', ')']).skip(1).step_by(2).map(|count| count.parse::<usize>().expect("a count"));
+        assert_eq!(counts.sum::<usize>(), cast, "{text}");
+        votes += cast;
+        stopped += usize::from(status != 0);
+    }
+    assert!(votes > 4000 && (1000..2000).contains(&stopped), "{votes} votes, {stopped} logs that stop");
 }
 
 #[test]
