@@ -1,8 +1,8 @@
-//! The edges of document 01, with request A.1 of document 02, each with what the documents say of it.
+//! The edges of document 01, with requests A.1 and A.2 of document 02, each with what the documents say of it.
 
 use crate::judge::{Checked, Judge};
 use crate::log::{self, Field};
-use crate::model::{ceil_log2, length, Event, Play, Stage};
+use crate::model::{ceil_log2, length, Event, Play, Stage, Votes};
 use crate::text;
 
 /// Lists with their statuses and stations' lines; the file says how.
@@ -82,6 +82,7 @@ pub fn check(judge: &mut Judge) -> Checked {
     limits(judge)?;
     bytes(judge)?;
     ballots(judge)?;
+    voters(judge)?;
     lengths(judge)
 }
 
@@ -124,6 +125,38 @@ fn again(judge: &mut Judge) -> Checked {
         judge.report(&log)?;
     }
     Ok(())
+}
+
+const CLAIMS: &str = "open 2 2; claim 0 1, 1 3; deliver 0 0, 0 1, 1 0, 1 1; step 0, 0, 1, 1; answer 0 1";
+
+/// Who voted which way: a list, a ballot, who cast 0, who cast 1 and the answer. The last steps of case D vote for what the cursor is at,
+/// which is the other station.
+fn voters(judge: &mut Judge) -> Checked {
+    let finish = format!("{CLAIMS}; step 0, 0, 0, 1, 1, 1");
+    let next = format!("{finish}; answer 1 0; step 0, 0, 1, 1");
+    let lost = "open 3 2; claim 0 4, 1 5, 2 6; deliver 0 0, 1 1, 2 2; step 0, 0, 1, 1, 2, 2; lose 2, 1";
+    type Row<'a> = (&'a str, u8, &'a [u8], &'a [u8], Option<u8>);
+    let rows: [Row; 9] = [
+        ("open 2 1; claim 0 7, 1 9; deliver 0 0, 1 1; step 0, 0, 1, 1; answer 0 1", 0, &[0], &[1], Some(1)),
+        ("open 2 1; claim 1 9; deliver 1 1; step 1", 0, &[], &[], None),
+        ("open 2 1; claim 1 9; deliver 1 1; step 1, 1", 0, &[], &[1], None),
+        (CLAIMS, 0, &[], &[0, 1], Some(1)),
+        (&finish, 1, &[0], &[1], None),
+        (&next, 2, &[1], &[0], None),
+        (&next, 63, &[], &[], None),
+        (lost, 0, &[0, 2], &[1], None),
+        (lost, 1, &[], &[], None),
+    ];
+    for (words, b, zero, one, answer) in rows {
+        let due = Votes { voters: [zero, one].map(|stations| stations.iter().copied().collect()), answer };
+        let log = bytes_of(words);
+        let play = log::run(&log, usize::MAX).play.expect("a valid opening");
+        expect(words, play.look_ballot(b) == Ok(due))?;
+        judge.report(&log)?;
+    }
+    let ballots = |words| log::run(&bytes_of(words), 0).play.map(|play| [5, 64].map(|b| play.look_ballot(b).err()));
+    expect("no ballot by station", ballots("open 32 1") == Some([Some(9); 2]))?;
+    expect("no ballot by claim", ballots("open 1 2") == Some([None, Some(9)]))
 }
 
 /// Case H, and the limit before a note, a broken field, a second opening and an answer that comes again.
