@@ -176,6 +176,11 @@ fn by_station(judge: &mut ImageJudge) -> Checked {
     hand.step(1, &[(23, 3), (650, 2)])?;
     hand.ballot(0, &[0, 0, 0, 1, 0, 0, 0, 2, 1, 1, 0, 0])?;
     hand.look(1, 0x0000_0100_0000_0000)?;
+    answered(hand)
+}
+
+/// The same two stations, once both have voted: ballot 0 is answered 1, and both are lost in the end.
+fn answered(mut hand: Hand) -> Checked {
     hand.event(STEP, 8, &[])?;
     hand.event(Event::Answer { b: 1, a: 1 }, 9, &[])?;
     hand.event(Event::Answer { b: 0, a: 2 }, 10, &[])?;
