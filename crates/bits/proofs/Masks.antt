@@ -108,7 +108,9 @@ unfolding size count-below
 size-none = count-past 0 mask-bits (λ s. member s 0) (omega arith) (λ s l. member-none s)
 
 pub mask-laws : Mask-laws
+unfolding member
 mask-laws = record {
+  its-bit = λ s mask. refl;
   empty = member-none;
   empty-only = empty-only;
   put-in = member-same;
@@ -116,5 +118,5 @@ mask-laws = record {
   past = member-past;
   size-none = size-none;
   size-more = size-more;
-  size-again = insert-again;
+  put-again = insert-again;
 }

@@ -61,19 +61,21 @@ pub record Word-laws : Type 0 where
   pub inside : (w k : ℕ) (b : Bool) (n : ℕ) → k < w → word-with-bit w k b n ≡ with-bit k b n
   pub outside : (w k : ℕ) (b : Bool) (n : ℕ) → w ≤ k → word-with-bit w k b n ≡ n
 
--- 01, "The forms": counts of ones, for any width w. A number of w bits has as many ones as it has bits below w that are 1.
+-- 01, "How to write each place": "A.2 adds counts of ones over voter sets", for any width w. A number of w bits has as many ones as it has bits below w that are 1.
 abbrev pub Ones-rule : Type 0
 Ones-rule = (w n : ℕ) → n < 2 ^ w → ones n ≡ count-below w (λ k. bit k n)
 
 -- a mask is a set of the stations below 32
 pub record Mask-laws : Type 0 where
+  -- station s is bit s
+  pub its-bit : (s mask : ℕ) → member s mask ≡ bit s mask
   pub empty : (s : ℕ) → member s 0 ≡ false
   -- only 0 is empty, whatever its width
   pub empty-only : (mask : ℕ) → ((s : ℕ) → member s mask ≡ false) → mask ≡ 0
   pub put-in : (s mask : ℕ) → s < 32 → member s (insert s mask) ≡ true
   pub others : (s t mask : ℕ) → (s ≡ t → ⊥) → member s (insert t mask) ≡ member s mask
   pub past : (s mask : ℕ) → 32 ≤ s → insert s mask ≡ mask
-  -- a station put in counts once
+  -- a station put in counts once: put in again, it changes nothing
   pub size-none : size 0 ≡ 0
   pub size-more : (s mask : ℕ) → s < 32 → member s mask ≡ false → size (insert s mask) ≡ suc (size mask)
-  pub size-again : (s mask : ℕ) → member s mask ≡ true → insert s mask ≡ mask
+  pub put-again : (s mask : ℕ) → member s mask ≡ true → insert s mask ≡ mask

@@ -52,7 +52,7 @@ spelled rule j v = cond (by-station rule) j v
 abbrev pub voters : Ballot → Bool → ℕ
 voters t a = cond a (t .cast1) (t .cast0)
 
--- bit a was cast in the ballot: "a bit counts as cast exactly when its set is not empty", whoever is in it, a number from n on too
+-- bit a was cast in the ballot: "a bit counts as cast exactly when its set is not empty"; a member from n on counts too
 abbrev pub was-cast : Ballot → Bool → Bool
 was-cast t a = not (eqb (voters t a) 0)
 

@@ -50,15 +50,15 @@ by-number-bit v x r e = ap (λ (b : Bool). bit (v .own .round) (cond b (v .own .
 by-claim-bit : (v : View) (x : Bool) → (v .rule ≡ 1 → ⊥) → bit (v .own .round) (v .beside .claim) ≡ x → bit-voted v ≡ x
 by-claim-bit v x r e = ap (λ (b : Bool). bit (v .own .round) (cond b (v .own .cursor) (v .beside .claim))) (ne-eqb (v .rule) 1 r) ∙ e
 
-put-in : (s set : ℕ) → Puts-in s set (insert s set)
-put-in s set = record { voter = λ l. member-same s set l; nobody-else = λ i d. member-other i s set d }
+pub puts-in : (s set : ℕ) → Puts-in s set (insert s set)
+puts-in s set = record { voter = λ l. member-same s set l; nobody-else = λ i d. member-other i s set d }
 
 -- the bit cast is x: the voter is in the set of x
 cast-no : (s : ℕ) (x : Bool) (b : Ballot) → x ≡ false → Puts-in s (b .cast0) (casting s x b .cast0)
-cast-no s x b e = rw e (put-in s (b .cast0))
+cast-no s x b e = rw e (puts-in s (b .cast0))
 
 cast-yes : (s : ℕ) (x : Bool) (b : Ballot) → x ≡ true → Puts-in s (b .cast1) (casting s x b .cast1)
-cast-yes s x b e = rw e (put-in s (b .cast1))
+cast-yes s x b e = rw e (puts-in s (b .cast1))
 
 voting-said : (v : View) (s : ℕ) → Voting-said v s (stepped v s Voting) (voted v s Voting)
 unfolding stepped voted

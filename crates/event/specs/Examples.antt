@@ -45,8 +45,8 @@ abbrev pub lost : Stage → (held c j k d w : ℕ) → Station
 lost g held c j k d w = record { stage = g; lost = true; held = held; claim = c; cursor = j; round = k; word = d; decision = w }
 
 -- a ballot: the masks of the stations that cast 0 and 1, answered, the answer
-abbrev pub marks : (zeros ones : ℕ) (answered bit : Bool) → Ballot
-marks zeros ones answered bit = record { cast0 = zeros; cast1 = ones; answered = answered; answer = bit }
+abbrev pub voted-by : (zeros ones : ℕ) (answered bit : Bool) → Ballot
+voted-by zeros ones answered bit = record { cast0 = zeros; cast1 = ones; answered = answered; answer = bit }
 
 -- n stations under a rule: the own station alone; or the one beside it and the ballot too
 abbrev alone : (n rule : ℕ) → Station → View
@@ -67,10 +67,10 @@ abbrev five : Station
 five = live Waiting 0 5 0 0 0 0
 
 abbrev no : Ballot
-no = marks 4 0 true false
+no = voted-by 4 0 true false
 
 abbrev yes : Ballot
-yes = marks 0 8 true true
+yes = voted-by 0 8 true true
 
 -- the numbers, tests in order; a row that meets several says which comes first
 abbrev numbers : List Row
@@ -118,9 +118,9 @@ numbers =
     ∷ gives (seen 2 1 (made Decided) five no) (step 1) 7
     ∷ gives (alone 2 1 (made Waiting)) (step 0) 8
     ∷ gives (alone 2 1 (made Awaiting)) (step 1) 8
-    ∷ gives (seen 2 1 (made Awaiting) five (marks 4 8 false true)) (step 1) 8
-    ∷ gives (seen 2 2 (made FinishAwaiting) five (marks 4 8 false true)) (step 1) 8
-    ∷ gives (seen 2 2 (live FinishAwaiting 6 7 1 31 5 9) five (marks 4 8 false false)) (step 1) 8
+    ∷ gives (seen 2 1 (made Awaiting) five (voted-by 4 8 false true)) (step 1) 8
+    ∷ gives (seen 2 2 (made FinishAwaiting) five (voted-by 4 8 false true)) (step 1) 8
+    ∷ gives (seen 2 2 (live FinishAwaiting 6 7 1 31 5 9) five (voted-by 4 8 false false)) (step 1) 8
     ∷ gives (seen 2 2 (live FinishAwaiting 6 7 1 31 5 9) five no) (step 1) 42
     -- LOSE: 1, 2
     ∷ gives (alone 2 1 blank-station) (lose 2) 1
@@ -133,33 +133,33 @@ numbers =
     ∷ gives (alone 0 2 blank-station) (answer 0 0) 9
     ∷ gives (alone 32 1 blank-station) (answer 5 2) 9
     ∷ gives (seen 32 1 blank-station five no) (answer 5 0) 9
-    ∷ gives (seen 32 1 blank-station five (marks 4 8 false false)) (answer 4 2) 10
+    ∷ gives (seen 32 1 blank-station five (voted-by 4 8 false false)) (answer 4 2) 10
     ∷ gives (seen 32 1 blank-station five yes) (answer 4 2) 10
     ∷ gives (alone 32 1 blank-station) (answer 4 2) 10
     ∷ gives (seen 32 1 blank-station five no) (answer 4 2) 10
     ∷ gives (seen 32 1 blank-station five yes) (answer 5 1) 9
     ∷ gives (seen 32 1 blank-station five yes) (answer 4 0) 11
     ∷ gives (seen 32 1 blank-station five no) (answer 4 1) 11
-    ∷ gives (seen 32 2 blank-station five (marks 4 8 true true)) (answer 63 0) 11
-    ∷ gives (seen 32 2 blank-station five (marks 4 8 true false)) (answer 63 1) 11
+    ∷ gives (seen 32 2 blank-station five (voted-by 4 8 true true)) (answer 63 0) 11
+    ∷ gives (seen 32 2 blank-station five (voted-by 4 8 true false)) (answer 63 1) 11
     ∷ gives (seen 32 1 blank-station five yes) (answer 4 1) 0
     ∷ gives (seen 32 1 blank-station five no) (answer 4 0) 0
-    ∷ gives (seen 32 2 blank-station five (marks 0 0 true true)) (answer 63 1) 0
-    ∷ gives (seen 32 2 blank-station five (marks 0 0 true true)) (answer 63 0) 11
-    ∷ gives (seen 1 2 blank-station five (marks 0 8 true false)) (answer 0 0) 0
-    ∷ gives (seen 1 2 blank-station five (marks 0 8 true false)) (answer 0 1) 11
-    ∷ gives (seen 2 1 blank-station five (marks 4 0 false true)) (answer 0 1) 12
-    ∷ gives (seen 2 1 blank-station five (marks 0 8 false false)) (answer 0 0) 12
+    ∷ gives (seen 32 2 blank-station five (voted-by 0 0 true true)) (answer 63 1) 0
+    ∷ gives (seen 32 2 blank-station five (voted-by 0 0 true true)) (answer 63 0) 11
+    ∷ gives (seen 1 2 blank-station five (voted-by 0 8 true false)) (answer 0 0) 0
+    ∷ gives (seen 1 2 blank-station five (voted-by 0 8 true false)) (answer 0 1) 11
+    ∷ gives (seen 2 1 blank-station five (voted-by 4 0 false true)) (answer 0 1) 12
+    ∷ gives (seen 2 1 blank-station five (voted-by 0 8 false false)) (answer 0 0) 12
     ∷ gives (alone 32 1 blank-station) (answer 4 0) 12
-    ∷ gives (seen 32 2 blank-station five (marks 4 0 false false)) (answer 63 1) 12
-    ∷ gives (seen 1 2 blank-station five (marks 0 8 false false)) (answer 0 0) 12
+    ∷ gives (seen 32 2 blank-station five (voted-by 4 0 false false)) (answer 63 1) 12
+    ∷ gives (seen 1 2 blank-station five (voted-by 0 8 false false)) (answer 0 0) 12
     ∷ []
 
 -- accepted: the whole entries after it
 abbrev entries : List Row
 entries =
     -- CLAIM, from OPEN's entry too
-    leaves (seen 2 1 blank-station blank-station blank-ballot) (claim 1 7) (live Waiting 0 7 0 0 0 0) (marks 0 0 false false)
+    leaves (seen 2 1 blank-station blank-station blank-ballot) (claim 1 7) (live Waiting 0 7 0 0 0 0) (voted-by 0 0 false false)
     ∷ leaves (seen 4 1 (made Idle) five no) (claim 3 8) (live Waiting 6 8 1 3 5 9) no
     ∷ leaves (seen 32 2 (made Idle) five yes) (claim 31 4294967295) (live Waiting 6 4294967295 1 3 5 9) yes
     -- DELIVER: one claim more; s may be idle, t lost, and t may be s
@@ -167,31 +167,31 @@ entries =
     ∷ leaves (seen 4 2 (made Idle) (gone Decided) yes) (deliver 3 1) (live Idle 14 7 1 3 5 9) yes
     ∷ leaves (seen 32 2 (made Waiting) (made Waiting) yes) (deliver 31 31) (live Waiting 2147483654 7 1 3 5 9) yes
     -- LOSE: the mark
-    ∷ leaves (seen 1 1 blank-station blank-station blank-ballot) (lose 0) (lost Idle 0 0 0 0 0 0) (marks 0 0 false false)
+    ∷ leaves (seen 1 1 blank-station blank-station blank-ballot) (lose 0) (lost Idle 0 0 0 0 0 0) (voted-by 0 0 false false)
     ∷ leaves (seen 4 2 (made Decided) five no) (lose 1) (lost Decided 6 7 1 3 5 9) no
     -- ANSWER: the ballot's answer; any bit cast may be given
-    ∷ leaves (seen 32 1 (made Seeking) five (marks 4 0 false true)) (answer 4 0) (live Seeking 6 7 1 3 5 9) (marks 4 0 true false)
-    ∷ leaves (seen 32 2 (gone Decided) five (marks 0 8 false false)) (answer 63 1) (lost Decided 6 7 1 3 5 9) (marks 0 8 true true)
-    ∷ leaves (seen 1 2 (made Idle) five (marks 4 8 false false)) (answer 1 1) (live Idle 6 7 1 3 5 9) (marks 4 8 true true)
-    ∷ leaves (seen 2 1 (made Idle) five (marks 4 8 false true)) (answer 0 0) (live Idle 6 7 1 3 5 9) (marks 4 8 true false)
+    ∷ leaves (seen 32 1 (made Seeking) five (voted-by 4 0 false true)) (answer 4 0) (live Seeking 6 7 1 3 5 9) (voted-by 4 0 true false)
+    ∷ leaves (seen 32 2 (gone Decided) five (voted-by 0 8 false false)) (answer 63 1) (lost Decided 6 7 1 3 5 9) (voted-by 0 8 true true)
+    ∷ leaves (seen 1 2 (made Idle) five (voted-by 4 8 false false)) (answer 1 1) (live Idle 6 7 1 3 5 9) (voted-by 4 8 true true)
+    ∷ leaves (seen 2 1 (made Idle) five (voted-by 4 8 false true)) (answer 0 0) (live Idle 6 7 1 3 5 9) (voted-by 4 8 true false)
     -- ANSWER of the bit that stands: nothing, whoever cast it
     ∷ leaves (seen 32 1 (made Awaiting) five yes) (answer 4 1) (live Awaiting 6 7 1 3 5 9) yes
-    ∷ leaves (seen 32 2 (gone Decided) five (marks 4 8 true false)) (answer 63 0) (lost Decided 6 7 1 3 5 9) (marks 4 8 true false)
-    ∷ leaves (seen 2 1 (made Idle) five (marks 0 0 true true)) (answer 0 1) (live Idle 6 7 1 3 5 9) (marks 0 0 true true)
-    ∷ leaves (seen 1 2 (made Seeking) five (marks 0 8 true false)) (answer 1 0) (live Seeking 6 7 1 3 5 9) (marks 0 8 true false)
+    ∷ leaves (seen 32 2 (gone Decided) five (voted-by 4 8 true false)) (answer 63 0) (lost Decided 6 7 1 3 5 9) (voted-by 4 8 true false)
+    ∷ leaves (seen 2 1 (made Idle) five (voted-by 0 0 true true)) (answer 0 1) (live Idle 6 7 1 3 5 9) (voted-by 0 0 true true)
+    ∷ leaves (seen 1 2 (made Seeking) five (voted-by 0 8 true false)) (answer 1 0) (live Seeking 6 7 1 3 5 9) (voted-by 0 8 true false)
     -- STEP, waiting: the cursor on itself; by station a lone one decides its own claim
     ∷ leaves (seen 4 1 (made Waiting) five no) (step 2) (live Voting 6 7 2 3 5 9) no
     ∷ leaves (seen 32 2 (live Waiting 2147483648 7 1 3 5 9) five yes) (step 31) (live Voting 2147483648 7 31 3 5 9) yes
     ∷ leaves (seen 1 1 (live Waiting 3 7 1 3 5 9) five no) (step 0) (live Decided 3 7 0 3 5 7) no
     ∷ leaves (seen 1 2 (live Waiting 3 7 1 3 5 9) five yes) (step 0) (live Voting 3 7 0 3 5 9) yes
     -- voting: bit k of the cursor, or of its claim; the voter in that set alone, where it may be already, or in the other one
-    ∷ leaves (seen 4 1 (live Voting 6 7 2 1 5 9) five (marks 0 0 true false)) (step 1) (live Awaiting 6 7 2 1 5 9) (marks 0 2 true false)
-    ∷ leaves (seen 4 2 (live Voting 6 7 2 1 5 9) five (marks 0 0 true true)) (step 1) (live Awaiting 6 7 2 1 5 9) (marks 2 0 true true)
-    ∷ leaves (seen 4 1 (live Voting 6 7 1 1 5 9) (made Waiting) (marks 4 8 false false)) (step 3) (live Awaiting 6 7 1 1 5 9) (marks 12 8 false false)
-    ∷ leaves (seen 32 1 (live Voting 6 7 16 4 5 9) five (marks 4 0 false true)) (step 31) (live Awaiting 6 7 16 4 5 9) (marks 4 2147483648 false true)
-    ∷ leaves (seen 32 2 (live Voting 6 7 31 31 5 9) (live Decided 0 2147483648 0 0 0 0) blank-ballot) (step 1) (live Awaiting 6 7 31 31 5 9) (marks 0 2 false false)
-    ∷ leaves (seen 4 2 (live Voting 6 7 2 0 5 9) (made Idle) (marks 5 5 false false)) (step 0) (live Awaiting 6 7 2 0 5 9) (marks 5 5 false false)
-    ∷ leaves (seen 4 2 (live Voting 6 7 2 0 5 9) (made Idle) (marks 9 4294967280 false false)) (step 3) (live Awaiting 6 7 2 0 5 9) (marks 9 4294967288 false false)
+    ∷ leaves (seen 4 1 (live Voting 6 7 2 1 5 9) five (voted-by 0 0 true false)) (step 1) (live Awaiting 6 7 2 1 5 9) (voted-by 0 2 true false)
+    ∷ leaves (seen 4 2 (live Voting 6 7 2 1 5 9) five (voted-by 0 0 true true)) (step 1) (live Awaiting 6 7 2 1 5 9) (voted-by 2 0 true true)
+    ∷ leaves (seen 4 1 (live Voting 6 7 1 1 5 9) (made Waiting) (voted-by 4 8 false false)) (step 3) (live Awaiting 6 7 1 1 5 9) (voted-by 12 8 false false)
+    ∷ leaves (seen 32 1 (live Voting 6 7 16 4 5 9) five (voted-by 4 0 false true)) (step 31) (live Awaiting 6 7 16 4 5 9) (voted-by 4 2147483648 false true)
+    ∷ leaves (seen 32 2 (live Voting 6 7 31 31 5 9) (live Decided 0 2147483648 0 0 0 0) blank-ballot) (step 1) (live Awaiting 6 7 31 31 5 9) (voted-by 0 2 false false)
+    ∷ leaves (seen 4 2 (live Voting 6 7 2 0 5 9) (made Idle) (voted-by 5 5 false false)) (step 0) (live Awaiting 6 7 2 0 5 9) (voted-by 5 5 false false)
+    ∷ leaves (seen 4 2 (live Voting 6 7 2 0 5 9) (made Idle) (voted-by 9 4294967280 false false)) (step 3) (live Awaiting 6 7 2 0 5 9) (voted-by 9 4294967288 false false)
     -- awaiting: the answer becomes bit k of the word, whatever stood there
     ∷ leaves (seen 32 1 (made Awaiting) five yes) (step 1) (live Seeking 6 7 1 3 13 9) yes
     ∷ leaves (seen 2 2 (live Awaiting 6 7 1 2 5 9) five no) (step 1) (live Seeking 6 7 1 2 1 9) no
@@ -214,11 +214,11 @@ entries =
     ∷ leaves (seen 32 2 (live Seeking 2147483648 7 30 0 5 9) five yes) (step 1) (live FinishVoting 2147483648 7 31 0 5 9) yes
     ∷ leaves (seen 1 2 (live Seeking 1 7 0 0 1 9) (live Seeking 1 7 0 0 1 9) yes) (step 0) (live FinishVoting 1 7 0 0 1 9) yes
     -- the finish vote: 1 for the whole claim, not for its low bits
-    ∷ leaves (seen 2 2 (live FinishVoting 6 7 0 1 1 9) five (marks 0 0 true true)) (step 1) (live FinishAwaiting 6 7 0 1 1 9) (marks 2 0 true true)
-    ∷ leaves (seen 32 2 (live FinishVoting 6 7 0 2 5 9) five (marks 0 0 true false)) (step 31) (live FinishAwaiting 6 7 0 2 5 9) (marks 0 2147483648 true false)
-    ∷ leaves (seen 2 2 (live FinishVoting 6 7 0 0 5 9) five (marks 4 8 false true)) (step 1) (live FinishAwaiting 6 7 0 0 5 9) (marks 4 10 false true)
-    ∷ leaves (seen 2 2 (live FinishVoting 6 7 0 0 5 9) (live Waiting 0 1 0 0 0 0) (marks 4 8 false false)) (step 1) (live FinishAwaiting 6 7 0 0 5 9) (marks 6 8 false false)
-    ∷ leaves (seen 2 2 (live FinishVoting 6 7 0 0 0 9) blank-station blank-ballot) (step 1) (live FinishAwaiting 6 7 0 0 0 9) (marks 0 2 false false)
+    ∷ leaves (seen 2 2 (live FinishVoting 6 7 0 1 1 9) five (voted-by 0 0 true true)) (step 1) (live FinishAwaiting 6 7 0 1 1 9) (voted-by 2 0 true true)
+    ∷ leaves (seen 32 2 (live FinishVoting 6 7 0 2 5 9) five (voted-by 0 0 true false)) (step 31) (live FinishAwaiting 6 7 0 2 5 9) (voted-by 0 2147483648 true false)
+    ∷ leaves (seen 2 2 (live FinishVoting 6 7 0 0 5 9) five (voted-by 4 8 false true)) (step 1) (live FinishAwaiting 6 7 0 0 5 9) (voted-by 4 10 false true)
+    ∷ leaves (seen 2 2 (live FinishVoting 6 7 0 0 5 9) (live Waiting 0 1 0 0 0 0) (voted-by 4 8 false false)) (step 1) (live FinishAwaiting 6 7 0 0 5 9) (voted-by 6 8 false false)
+    ∷ leaves (seen 2 2 (live FinishVoting 6 7 0 0 0 9) blank-station blank-ballot) (step 1) (live FinishAwaiting 6 7 0 0 0 9) (voted-by 0 2 false false)
     -- the finish answer: 1 decides the word, in the last ballot too; 0 begins the next round
     ∷ leaves (seen 2 2 (made FinishAwaiting) five yes) (step 1) (live Decided 6 7 1 3 5 5) yes
     ∷ leaves (seen 32 2 (live FinishAwaiting 6 7 1 31 5 9) five yes) (step 1) (live Decided 6 7 1 31 5 5) yes

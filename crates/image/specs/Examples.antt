@@ -45,8 +45,8 @@ pub record Bytes-shown : Type 0 where
       ≡ Idle ∷ Waiting ∷ Voting ∷ Awaiting ∷ Seeking ∷ FinishVoting ∷ FinishAwaiting ∷ Decided ∷ []
   -- the stations that cast 0 and 1, answered, the answer; both ways, whatever follows
   pub ballots : map ballot-bytes (record { cast0 = 0x01020304; cast1 = 0x05060708; answered = true; answer = false }
-      ∷ record { cast0 = 0; cast1 = 0; answered = false; answer = true } ∷ [])
-      ≡ (1 ∷ 2 ∷ 3 ∷ 4 ∷ 5 ∷ 6 ∷ 7 ∷ 8 ∷ 1 ∷ 0 ∷ []) ∷ (0 ∷ 0 ∷ 0 ∷ 0 ∷ 0 ∷ 0 ∷ 0 ∷ 0 ∷ 0 ∷ 1 ∷ []) ∷ []
+      ∷ record { cast0 = 0x090a0b0c; cast1 = 0x0d0e0f10; answered = false; answer = true } ∷ [])
+      ≡ (1 ∷ 2 ∷ 3 ∷ 4 ∷ 5 ∷ 6 ∷ 7 ∷ 8 ∷ 1 ∷ 0 ∷ []) ∷ (9 ∷ 10 ∷ 11 ∷ 12 ∷ 13 ∷ 14 ∷ 15 ∷ 16 ∷ 0 ∷ 1 ∷ []) ∷ []
   pub ballot-read : ballot-from (1 ∷ 2 ∷ 3 ∷ 4 ∷ 5 ∷ 6 ∷ 7 ∷ 8 ∷ 1 ∷ 0 ∷ 9 ∷ []) ≡ record { cast0 = 0x01020304; cast1 = 0x05060708; answered = true; answer = false }
   -- the version, n, the rule, and 1,280 bytes more
   pub an-opening : image-of (opened 7 2 .settlement) ≡ 2 ∷ 7 ∷ 2 ∷ replicate 1280 0
@@ -58,7 +58,7 @@ pub record Bytes-shown : Type 0 where
   pub short : no-image (2 ∷ replicate 1281 0) ≡ 80
   pub long : no-image (2 ∷ replicate 1283 0) ≡ 80
   -- so too an image of version 1, which had 899 bytes
-  pub before : no-image (1 ∷ replicate 898 0) ≡ 80
+  pub version-1 : no-image (1 ∷ replicate 898 0) ≡ 80
   -- another version: 81, whatever else
   pub older : no-image (1 ∷ replicate 1282 0) ≡ 81
   pub newer : no-image (3 ∷ replicate 1282 9) ≡ 81

@@ -72,7 +72,9 @@ tallies-shown = record {
   no-room = refl;
   no-room-left = refl;
   short = refl;
+  newer = refl;
   no-rule = refl;
+  no-rule-left = refl;
   no-ballot = refl;
   no-ballot-left = refl;
 }

@@ -13,16 +13,19 @@ use Rattle.consensus.specs.Rules.{number}
 use Rattle.consensus.specs.Terms.{Beginning, Claims-fit}
 use Rattle.settlement.specs.declared.record.Settlement.{Settlement}
 use Rattle.settlement.specs.declared.record.Standing.{Standing}
+use Rattle.settlement.specs.declared.record.Tally.{Tally}
 use Rattle.settlement.specs.Events.{played}
 use Rattle.settlement.specs.Look.{looked}
+use Rattle.settlement.specs.Tally.{tallied}
 use Rattle.settlement.specs.Link.{record-after}
 use Rattle.settlement.specs.Demands.{Demand3-of-records}
 use Rattle.settlement.proofs.Demand1.{demand1}
 use Rattle.settlement.proofs.Link.Demands.{demands}
-use Rattle.image.specs.Image.{image-of, no-image, Record-fits}
+use Rattle.image.specs.Image.{image-of, record-in, no-image, Record-fits}
 use Rattle.image.proofs.Image.{an-image, record-again}
 use Rattle.on_image.specs.Events.{image-number, image-after}
 use Rattle.on_image.specs.Look.{looked-on}
+use Rattle.on_image.specs.Tally.{by-value}
 use Rattle.on_image.specs.Lists.{Stands, Demand3-on-image, Image-lists}
 use Rattle.on_image.proofs.Laws.{on-image}
 use Rattle.on_image.proofs.Looks.{image-shown}
@@ -47,6 +50,11 @@ module _ (r : Settlement) (fits : Record-fits r) where
 
   pub same-look : (s : ℕ) → looked-on (image-of r) s ≡ looked r s
   same-look s = image-shown (image-of r) s there ∙ ap (λ (x : Settlement). looked x s) (record-again r fits)
+
+  same-tally : (k : ℕ) → (by-value (image-of r) k ≡ tallied r k .number) × (tallied (record-in (image-of r)) k ≡ tallied r k)
+  same-tally k =
+      let shown = ap (λ (x : Settlement). tallied x k) (record-again r fits) in
+      (ap (λ (n : ℕ). cond (eqb n 0) (tallied (record-in (image-of r)) k .number) n) there ∙ ap (λ (t : Tally). t .number) shown, shown)
 
 -- ---- lists
 
@@ -89,6 +97,10 @@ module _ (o : Opening) (a : Openable o) (h : History) (f : Claims-fit h) where
     looks = λ g c b s i.
         let fit = beginning-fits g h c f in
         ap (λ (x : List ℕ). looked-on x i) (left o a g fit b s) ∙ same-look (record-after o g) (after-fits o a g fit) i;
+    ballots = λ g c b s k.
+        let fit = beginning-fits g h c f in
+        subst (λ (x : List ℕ). (by-value x k ≡ tallied (record-after o g) k .number) × (tallied (record-in x) k ≡ tallied (record-after o g) k))
+        (sym (left o a g fit b s)) (same-tally (record-after o g) (after-fits o a g fit) k);
     looks-agree = agree;
   }
 

@@ -116,14 +116,14 @@ not-30 b e = three (other-length b) (not (eqb (byte b 0) version)) (unread b) e
     three false false false e = omega (arith, e)
 
 -- 30 is neither the bytes' nor the record's
-pub tested-30 : (b : List ℕ) (x : ℕ) → tested-first b x ≡ 30 → (fault (record-in b) ≡ false) × (x ≡ 30)
+tested-30 : (b : List ℕ) (x : ℕ) → tested-first b x ≡ 30 → (fault (record-in b) ≡ false) × (x ≡ 30)
 tested-30 b x e =
     by-bool (eqb (no-image b) 0)
     (λ p. by-bool (fault (record-in b)) (λ f. let clash : 42 + 0 ≡ 30 = rw (p, f) at e in absurd (omega (arith, clash))) (λ f. (f, rw (p, f) at e)))
     (λ p. absurd (not-30 b (rw p at e)))
 
 -- the test that gives 30 is met
-pub met-30 : (p : Bool) → refuse p 30 0 ≡ 30 → p ≡ true
+met-30 : (p : Bool) → refuse p 30 0 ≡ 30 → p ≡ true
 met-30 true e = refl
 met-30 false e = absurd (omega (arith, e))
 
@@ -187,7 +187,12 @@ each b out z s h =
     rw (z, image-shown b s (room b out z .an-image)) (piece (looked (record-in b)) (record-in b .count) s h _)
 
 pub looks : Looks
-looks = record { enough = enough; each = each }
+looks = record {
+  enough = enough;
+  each = each;
+  count = λ b out z. sym (all-written b out z .0);
+  refused = λ b out n. (sym (all-refused b out n .0), sym (all-refused b out n .1));
+}
 
 -- ---- the word read again
 

@@ -3,7 +3,7 @@
 use Prim.Native.Nat.{ℕ, _*_}
 use mathlib.Core.Path.{_≡_}
 use mathlib.Core.Bool.{true, false}
-use mathlib.Core.List.{List, [], _∷_, _++_}
+use mathlib.Core.List.{List, [], _∷_}
 use lib.ListN.{replicate, set}
 use Rattle.consensus.specs.Events.{claim, deliver, step, lose, answer}
 use Rattle.settlement.specs.declared.record.Standing.{Standing}
@@ -90,15 +90,18 @@ some-tally = record { number = 0; cast0 = 0x01020304; cast1 = 0x05060708; count0
 pub record Tallies-shown : Type 0 where
   -- the stations that cast 0 and those that cast 1, high byte first; how many; answered, the answer
   pub bytes : tally-bytes some-tally ≡ 1 ∷ 2 ∷ 3 ∷ 4 ∷ 5 ∷ 6 ∷ 7 ∷ 8 ∷ 9 ∷ 10 ∷ 1 ∷ 0 ∷ []
-  pub answer : tally-bytes (record { number = 0; cast0 = 0; cast1 = 0; count0 = 0; count1 = 0; answered = false; answer = true }) ≡ replicate 11 0 ++ (1 ∷ [])
+  pub answer : tally-bytes (record { number = 0; cast0 = 4294967295; cast1 = 0; count0 = 32; count1 = 0; answered = true; answer = true })
+      ≡ 255 ∷ 255 ∷ 255 ∷ 255 ∷ 0 ∷ 0 ∷ 0 ∷ 0 ∷ 32 ∷ 0 ∷ 1 ∷ 1 ∷ []
   -- 12 bytes from the buffer's start on, every other byte as it was
   pub shown : tally-after voted 0 (replicate 14 9) ≡ 0 ∷ 0 ∷ 0 ∷ 0 ∷ 0 ∷ 0 ∷ 0 ∷ 2 ∷ 0 ∷ 1 ∷ 0 ∷ 0 ∷ 9 ∷ 9 ∷ []
   pub count : tally-answer voted 0 (replicate 14 9) ≡ 12
   pub just-room : tally-answer voted 0 (replicate 12 9) ≡ 12
   pub no-room : tally-answer voted 0 (replicate 11 9) ≡ 30 * 65536
   pub no-room-left : tally-after voted 0 (replicate 11 9) ≡ replicate 11 9
-  -- refused: 80, 42 before 9, 9 before 30, and no byte is written
+  -- refused: 80, 81, 42 before 9, 9 before 30, and no byte is written
   pub short : tally-answer [] 0 [] ≡ 80 * 65536
-  pub no-rule : tally-answer (set two 2 3) 1 [] ≡ 42 * 65536
+  pub newer : tally-answer (set two 0 3) 1 [] ≡ 81 * 65536
+  pub no-rule : tally-answer (set voted 2 3) 1 [] ≡ 42 * 65536
+  pub no-rule-left : tally-after (set voted 2 3) 0 (replicate 13 9) ≡ replicate 13 9
   pub no-ballot : tally-answer two 1 [] ≡ 9 * 65536
   pub no-ballot-left : tally-after two 1 (replicate 13 9) ≡ replicate 13 9

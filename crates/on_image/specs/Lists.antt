@@ -10,11 +10,13 @@ use Rattle.consensus.specs.Terms.{Beginning, Claims-fit}
 use Rattle.settlement.specs.declared.record.Settlement.{Settlement}
 use Rattle.settlement.specs.Events.{opened, played}
 use Rattle.settlement.specs.Look.{looked}
+use Rattle.settlement.specs.Tally.{tallied}
 use Rattle.settlement.specs.Link.{rule-number, record-after}
 use Rattle.settlement.specs.Demands.{Demand3-of-records}
-use Rattle.image.specs.Image.{image-of, Record-fits}
+use Rattle.image.specs.Image.{image-of, record-in, Record-fits}
 use Rattle.on_image.specs.Events.{image-number, image-after}
 use Rattle.on_image.specs.Look.{looked-on}
+use Rattle.on_image.specs.Tally.{by-value}
 
 -- OPEN left its image in the caller's bytes, which were then lent to each event of the list in turn: b stands there at the end
 abbrev pub Stands : Opening → History → List ℕ → Type 0
@@ -28,6 +30,9 @@ pub record Demand3-on-image (o : Opening) (h : History) : Type 0 where
   pub left : (g : History) → Beginning g h → (b : List ℕ) → Stands o g b → b ≡ image-of (record-after o g)
   pub numbers : (g : History) → Beginning g h → (b : List ℕ) → Stands o g b → (e : Event) → image-number b e ≡ number o (after o g) e
   pub looks : (g : History) → Beginning g h → (b : List ℕ) → Stands o g b → (s : ℕ) → looked-on b s ≡ looked (record-after o g) s
+  -- and LOOK at each ballot is that of the record by value, which tells who voted (`Who-voted`)
+  pub ballots : (g : History) → Beginning g h → (b : List ℕ) → Stands o g b → (k : ℕ)
+      → (by-value b k ≡ tallied (record-after o g) k .number) × (tallied (record-in b) k ≡ tallied (record-after o g) k)
   -- so two stations that LOOK says have decided show one claim and the same number of votes
   pub looks-agree : (b : List ℕ) → Stands o h b → (p q : ℕ) → looked-on b p .decided ≡ true → looked-on b q .decided ≡ true → looked-on b p ≡ looked-on b q
 

@@ -49,6 +49,9 @@ pub record Looks : Type 0 where
   -- the eight bytes of each station are LOOK's answer
   pub each : (b out : List ℕ) → all-number b out ≡ 0 → (s : ℕ) → s < record-in b .count
       → take 8 (drop (8 * s) (all-after b out)) ≡ standing-bytes (looked-on b s)
+  -- accepted, the bytes of all stations are counted; refused, the number is answered alone, and every byte stays
+  pub count : (b out : List ℕ) → all-number b out ≡ 0 → all-answer b out ≡ 8 * record-in b .count
+  pub refused : (b out : List ℕ) → (all-number b out ≡ 0 → ⊥) → (all-answer b out ≡ 65536 * all-number b out) × (all-after b out ≡ out)
 
 -- an answer whose numbers fit is read off its word
 pub record Word-again : Type 0 where

@@ -1,4 +1,4 @@
-// The events and LOOK on an image that the caller lends: only the entries that an event looks at are read, and only two are stored. Every public
+// The events, LOOK and LOOK at a ballot on an image that the caller lends: only the entries that an event looks at are read, and only two are stored. Every public
 // function is total, and equals a definition of specs/.
 
 pub mod events;

@@ -7,7 +7,9 @@ use mathlib.Core.Bool.{Bool, true, false, not, cond, _&&_, _||_, true≢false}
 use mathlib.Core.List.{List, [], _∷_}
 use mathlib.Core.Option.{Option, none, some}
 use lib.Dec.{eqb, ltb}
-use borrow.Author.Tests.{eqb-true, eqb-false, eq-eqb, lt-ltb, le-ltb, ltb-true, ltb-false}
+use lib.ListN.{length, getD, set}
+use lib.Seq.{getD-set-same}
+use borrow.Author.Tests.{eqb-true, eqb-false, eq-eqb, ne-eqb, lt-ltb, le-ltb, ltb-true, ltb-false}
 use Rattle.basics.specs.Tests.{first-met}
 use Rattle.basics.specs.Below.{count-below}
 use Rattle.basics.proofs.Bools.{by-bool, cond-ind, no-clash, not-true→false, or-later, both-ways, beq-same, beq-true}
@@ -25,19 +27,22 @@ use Rattle.consensus.proofs.Demand3.{told}
 use Rattle.consensus.proofs.Reached.{reached}
 use Rattle.consensus.proofs.Ballots.{round-below}
 use Rattle.entry.specs.declared.entry.Ballot.{Ballot}
-use Rattle.entry.specs.Entries.{blank-ballot, ballots, voters, was-cast, answering}
+use Rattle.entry.specs.Entries.{blank-ballot, ballots, voters, was-cast, casting, answering}
+use Rattle.event.specs.Step.{voted}
 use Rattle.event.specs.Change.{ballot-after}
+use Rattle.event.proofs.Said.{puts-in}
 use Rattle.settlement.specs.declared.record.Settlement.{Settlement}
-use Rattle.settlement.specs.Record.{ballot}
+use Rattle.settlement.specs.Record.{entry, ballot, ballot-in, view}
 use Rattle.settlement.specs.Fault.{fault}
 use Rattle.settlement.specs.Events.{number, outcome, effect, played}
 use Rattle.settlement.specs.Link.{record-after}
 use Rattle.settlement.specs.Tally.{tally, tallied}
 use Rattle.settlement.specs.Laws.{Outside}
-use Rattle.settlement.specs.Voters.{nothing-tallied, Shown, Casts-in, Ballot-laws, is-among, answer-shown, Voters-of, Who-voted, Never-meet}
+use Rattle.settlement.specs.Voters.{nothing-tallied, Ballot-shown, Casts, by-station, by-claim, finish-yes, finish-no, Voted, Casts-in, Ballot-laws, is-among, answer-shown, Voters-of, Who-voted, Never-meet}
+use Rattle.settlement.proofs.Demand1.{demand1}
 use Rattle.settlement.proofs.Laws.{outside-fault, passing}
 use Rattle.settlement.proofs.Stays.{event-stays}
-use Rattle.settlement.proofs.Link.Linked.{Linked}
+use Rattle.settlement.proofs.Link.Linked.{Linked, cast-some}
 use Rattle.settlement.proofs.Link.Faultless.{faultless}
 use Rattle.settlement.proofs.Link.Numbers.{ballots-count}
 use Rattle.settlement.proofs.Link.Demands.{linked-after}
@@ -57,12 +62,12 @@ module _ (r : Settlement) (b : ℕ) where
   unfolding tallied first-met
   shown-whole passes h = rw (passes, lt-ltb b (ballots (r .count) (r .rule)) h)
 
-tally-shown : (u : Ballot) → Shown u (tally u)
+tally-shown : (u : Ballot) → Ballot-shown u (tally u)
 unfolding tally size
 tally-shown u = record {
   number = refl;
-  zeros = refl;
-  ones = refl;
+  cast0 = refl;
+  cast1 = refl;
   count0 = refl;
   count1 = refl;
   answered = refl;
@@ -70,8 +75,8 @@ tally-shown u = record {
   no-answer = λ e. rw e;
 }
 
-shown-0 : (r : Settlement) (b : ℕ) → fault r ≡ false → b < ballots (r .count) (r .rule) → Shown (ballot r b) (tallied r b)
-shown-0 r b passes h = subst (Shown (ballot r b)) (sym (shown-whole r b passes h)) (tally-shown (ballot r b))
+shown-0 : (r : Settlement) (b : ℕ) → fault r ≡ false → b < ballots (r .count) (r .rule) → Ballot-shown (ballot r b) (tallied r b)
+shown-0 r b passes h = subst (Ballot-shown (ballot r b)) (sym (shown-whole r b passes h)) (tally-shown (ballot r b))
 
 -- ---- a set that is not empty
 
@@ -101,12 +106,40 @@ sets-stay r (answer c v) b a h =
     (λ e. subst (λ (i : ℕ). voters (ballot (played r (answer c v) .settlement) i) a ≡ voters (ballot r i) a) (sym (eqb-true b c e)) (answer-leaves r c v a))
     (λ e. ap (λ (t : Ballot). voters t a) (event-stays r (answer c v) .ballots b (eqb-false b c e) blank-ballot))
 
+-- ---- a vote
+
+-- the bit x is cast in b: that is the ballot that the STEP looks at, and what it makes of it
+module _ (r : Settlement) (s b : ℕ) (x : Bool) where
+  casts-at : Casts r s b x → (ballot-in r (step s) ≡ b) × (ballot-after (view r (step s)) (step s) ≡ casting s x (ballot r (ballot-in r (step s))))
+  unfolding ballot-after voted
+  casts-at (by-station rule stage place its-bit) = (rw (stage, rule) (sym place), rw (stage, rule, its-bit))
+  casts-at (by-claim rule stage place its-bit) = (rw (stage, rule) (sym place), rw (stage, rule, its-bit))
+  casts-at (finish-yes stage place same one) =
+      (rw stage (sym place), rw (stage, eq-eqb (entry r s .word) (entry r (entry r s .cursor) .claim) same, one))
+  casts-at (finish-no stage place other zero) =
+      (rw stage (sym place), rw (stage, ne-eqb (entry r s .word) (entry r (entry r s .cursor) .claim) other, zero))
+
+  cast-there : Casts r s b x → b < length (r .ballots) → played r (step s) .number ≡ 0 → ballot (played r (step s) .settlement) b ≡ casting s x (ballot r b)
+  unfolding effect
+  cast-there casts inside z =
+      let at = casts-at casts in
+      ap (λ (t : Settlement). ballot t b) (demand1 .advanced r (step s) z)
+      ∙ subst (λ (c : ℕ). getD (set (r .ballots) c (ballot-after (view r (step s)) (step s))) b blank-ballot ≡ casting s x (ballot r c)) (sym (at .0))
+      (getD-set-same (r .ballots) b (ballot-after (view r (step s)) (step s)) blank-ballot inside ∙ at .1 ∙ ap (λ (c : ℕ). casting s x (ballot r c)) (at .0))
+      ∙ ap (λ (c : ℕ). casting s x (ballot r c)) (at .0)
+
+-- what casting makes of an entry
+votes-so : (s : ℕ) (x : Bool) (t : Ballot) → Voted s x t (casting s x t)
+votes-so s true t = record { its-set = puts-in s (t .cast1); other-set = refl; answered = refl; answer = refl }
+votes-so s false t = record { its-set = puts-in s (t .cast0); other-set = refl; answered = refl; answer = refl }
+
 pub ballot-laws : Ballot-laws
 ballot-laws = record {
   look-42 = λ r o b. shown-42 r b o;
   look-9 = λ r o b. shown-9 r b (passing r o);
   look-0 = λ r b i. shown-0 r b (passing r (i .0)) (i .1);
   cast-exactly = cast-exactly;
+  vote = λ r s b x casts inside z. subst (Voted s x (ballot r b)) (sym (cast-there r s b x casts inside z)) (votes-so s x (ballot r b));
   sets-stay = sets-stay;
 }
 
@@ -208,6 +241,7 @@ module _ (o : Opening) (a : Openable o) (h : History) (f : Claims-fit h) (b : �
   voters-of : Voters-of o h b
   voters-of = record {
     exactly = exactly;
+    cast = cast-some o r (after o h) linked b;
     only-stations = only-stations;
     as-many = as-many;
     look = λ l. shown-0 r b clear (has-ballot l);

@@ -11,7 +11,7 @@ use Rattle.entry.specs.declared.entry.Stage.{Stage}
 use Rattle.entry.specs.declared.entry.Stage.the-variants.{Idle, Waiting, Voting, Awaiting, Seeking, FinishVoting, FinishAwaiting, Decided}
 use Rattle.entry.specs.declared.entry.Station.{Station}
 use Rattle.entry.specs.declared.entry.Ballot.{Ballot}
-use Rattle.event.specs.Examples.{same-station, same-ballot, live, lost, marks}
+use Rattle.event.specs.Examples.{same-station, same-ballot, live, lost, voted-by}
 use Rattle.settlement.specs.declared.record.Settlement.{Settlement}
 use Rattle.settlement.specs.declared.record.Outcome.{Outcome}
 use Rattle.settlement.specs.declared.record.Standing.{Standing}
@@ -176,24 +176,24 @@ with-votes n rule b t = with-ballot b t (fresh n rule)
 abbrev looking-at-ballots : List Row
 looking-at-ballots =
     -- "It refuses with 42, then 9, and then gives empty sets, counts 0 and no answer"
-    tallies (with-votes 33 1 0 (marks 4 9 true true)) 0 42 0 0 0 0 false false ∷ tallies (with-votes 3 0 0 (marks 4 9 true true)) 255 42 0 0 0 0 false false
-    ∷ tallies (at-ballot 3 2 2 (entry-at Waiting 3 0) 0 (marks 4 9 true true)) 64 42 0 0 0 0 false false
-    ∷ tallies (with-votes 0 1 0 (marks 4 9 true true)) 0 9 0 0 0 0 false false ∷ tallies (with-votes 0 2 0 (marks 4 9 true true)) 0 9 0 0 0 0 false false
-    ∷ tallies (with-votes 1 1 0 (marks 4 9 true true)) 0 9 0 0 0 0 false false ∷ tallies (with-votes 32 1 5 (marks 4 9 true true)) 5 9 0 0 0 0 false false
-    ∷ tallies (with-votes 2 1 1 (marks 4 9 true true)) 1 9 0 0 0 0 false false ∷ tallies (fresh 32 2) 64 9 0 0 0 0 false false
-    ∷ tallies (with-votes 1 2 0 (marks 4 9 true true)) 255 9 0 0 0 0 false false
+    tallies (with-votes 33 1 0 (voted-by 4 9 true true)) 0 42 0 0 0 0 false false ∷ tallies (with-votes 3 0 0 (voted-by 4 9 true true)) 255 42 0 0 0 0 false false
+    ∷ tallies (at-ballot 3 2 2 (entry-at Waiting 3 0) 0 (voted-by 4 9 true true)) 64 42 0 0 0 0 false false
+    ∷ tallies (with-votes 0 1 0 (voted-by 4 9 true true)) 0 9 0 0 0 0 false false ∷ tallies (with-votes 0 2 0 (voted-by 4 9 true true)) 0 9 0 0 0 0 false false
+    ∷ tallies (with-votes 1 1 0 (voted-by 4 9 true true)) 0 9 0 0 0 0 false false ∷ tallies (with-votes 32 1 5 (voted-by 4 9 true true)) 5 9 0 0 0 0 false false
+    ∷ tallies (with-votes 2 1 1 (voted-by 4 9 true true)) 1 9 0 0 0 0 false false ∷ tallies (fresh 32 2) 64 9 0 0 0 0 false false
+    ∷ tallies (with-votes 1 2 0 (voted-by 4 9 true true)) 255 9 0 0 0 0 false false
     -- "answers both sets, how many stations are in each, and the answer if there is one"; a bit beside no answer is none
     ∷ tallies (fresh 2 1) 0 0 0 0 0 0 false false
-    ∷ tallies (with-votes 32 1 4 (marks 4 9 false false)) 4 0 4 9 1 2 false false ∷ tallies (with-votes 32 1 4 (marks 4 9 false true)) 4 0 4 9 1 2 false false
-    ∷ tallies (with-votes 32 2 63 (marks 9 4 true true)) 63 0 9 4 2 1 true true ∷ tallies (with-votes 32 2 63 (marks 9 4 true false)) 63 0 9 4 2 1 true false
+    ∷ tallies (with-votes 32 1 4 (voted-by 4 9 false false)) 4 0 4 9 1 2 false false ∷ tallies (with-votes 32 1 4 (voted-by 4 9 false true)) 4 0 4 9 1 2 false false
+    ∷ tallies (with-votes 32 2 63 (voted-by 9 4 true true)) 63 0 9 4 2 1 true true ∷ tallies (with-votes 32 2 63 (voted-by 9 4 true false)) 63 0 9 4 2 1 true false
     -- made up: stations from n on, sets that meet, an answer that nobody cast, every station
-    ∷ tallies (with-votes 1 2 0 (marks 2147483648 6 false false)) 0 0 2147483648 6 1 2 false false
-    ∷ tallies (with-votes 2 1 0 (marks 3 3 true true)) 0 0 3 3 2 2 true true ∷ tallies (with-votes 2 1 0 (marks 0 0 true true)) 0 0 0 0 0 0 true true
-    ∷ tallies (with-votes 32 2 1 (marks 4294967295 0 true false)) 1 0 4294967295 0 32 0 true false
-    ∷ tallies (with-votes 32 2 1 (marks 0 4294967295 true true)) 1 0 0 4294967295 0 32 true true
+    ∷ tallies (with-votes 1 2 0 (voted-by 2147483648 6 false false)) 0 0 2147483648 6 1 2 false false
+    ∷ tallies (with-votes 2 1 0 (voted-by 3 3 true true)) 0 0 3 3 2 2 true true ∷ tallies (with-votes 2 1 0 (voted-by 0 0 true true)) 0 0 0 0 0 0 true true
+    ∷ tallies (with-votes 32 2 1 (voted-by 4294967295 0 true false)) 1 0 4294967295 0 32 0 true false
+    ∷ tallies (with-votes 32 2 1 (voted-by 0 4294967295 true true)) 1 0 0 4294967295 0 32 true true
     -- another ballot's sets, and a lost voter's
-    ∷ tallies (with-votes 32 2 1 (marks 4 9 true true)) 2 0 0 0 0 0 false false
-    ∷ tallies (at-ballot 4 1 2 (lost Awaiting 5 6 3 1 9 11) 1 (marks 4 8 false false)) 1 0 4 8 1 1 false false
+    ∷ tallies (with-votes 32 2 1 (voted-by 4 9 true true)) 2 0 0 0 0 0 false false
+    ∷ tallies (at-ballot 4 1 2 (lost Awaiting 5 6 3 1 9 11) 1 (voted-by 4 8 false false)) 1 0 4 8 1 1 false false
     ∷ []
 
 -- ---- whole entries after an event: "what a step does not name stays"
@@ -218,15 +218,15 @@ entries-after =
     ∷ leaves (made-up 1 2 0 (live Waiting 5 6 0 3 9 11)) (step 0) 0 (live Voting 5 6 0 3 9 11)
     -- STEP, voting: bit 2 of 4 in ballot 2, bit 2 of the claim of 4 in ballot 4
     ∷ leaves (made-up 32 1 31 (live Voting 5 6 4 2 9 11)) (step 31) 31 (live Awaiting 5 6 4 2 9 11)
-    ∷ leaves-ballot (at-ballot 32 1 31 (live Voting 5 6 4 2 9 11) 2 (marks 4 0 false true)) (step 31) 2 (marks 4 2147483648 false true)
+    ∷ leaves-ballot (at-ballot 32 1 31 (live Voting 5 6 4 2 9 11) 2 (voted-by 4 0 false true)) (step 31) 2 (voted-by 4 2147483648 false true)
     ∷ leaves (beside 32 2 31 (live Voting 5 6 4 2 9 11) 4 (live Waiting 0 3 0 0 0 0)) (step 31) 31 (live Awaiting 5 6 4 2 9 11)
-    ∷ leaves-ballot (beside 32 2 31 (live Voting 5 6 4 2 9 11) 4 (live Waiting 0 3 0 0 0 0)) (step 31) 4 (marks 2147483648 0 false false)
-    ∷ leaves-ballot (made-up 1 2 0 (live Voting 5 4294967295 0 31 9 11)) (step 0) 62 (marks 0 1 false false)
+    ∷ leaves-ballot (beside 32 2 31 (live Voting 5 6 4 2 9 11) 4 (live Waiting 0 3 0 0 0 0)) (step 31) 4 (voted-by 2147483648 0 false false)
+    ∷ leaves-ballot (made-up 1 2 0 (live Voting 5 4294967295 0 31 9 11)) (step 0) 62 (voted-by 0 1 false false)
     -- STEP, awaiting: the answer becomes bit 2, or bit 3, of 9
-    ∷ leaves (at-ballot 32 1 31 (live Awaiting 5 6 4 2 9 11) 2 (marks 4 8 true true)) (step 31) 31 (live Seeking 5 6 4 2 13 11)
-    ∷ leaves (at-ballot 32 1 31 (live Awaiting 5 6 4 3 9 11) 3 (marks 4 8 true false)) (step 31) 31 (live Seeking 5 6 4 3 1 11)
-    ∷ leaves (at-ballot 1 2 0 (live Awaiting 5 6 0 2 9 11) 4 (marks 0 8 true true)) (step 0) 0 (live Seeking 5 6 0 2 13 11)
-    ∷ leaves-ballot (at-ballot 1 2 0 (live Awaiting 5 6 0 2 9 11) 4 (marks 0 8 true true)) (step 0) 4 (marks 0 8 true true)
+    ∷ leaves (at-ballot 32 1 31 (live Awaiting 5 6 4 2 9 11) 2 (voted-by 4 8 true true)) (step 31) 31 (live Seeking 5 6 4 2 13 11)
+    ∷ leaves (at-ballot 32 1 31 (live Awaiting 5 6 4 3 9 11) 3 (voted-by 4 8 true false)) (step 31) 31 (live Seeking 5 6 4 3 1 11)
+    ∷ leaves (at-ballot 1 2 0 (live Awaiting 5 6 0 2 9 11) 4 (voted-by 0 8 true true)) (step 0) 0 (live Seeking 5 6 0 2 13 11)
+    ∷ leaves-ballot (at-ballot 1 2 0 (live Awaiting 5 6 0 2 9 11) 4 (voted-by 0 8 true true)) (step 0) 4 (voted-by 0 8 true true)
     -- STEP, seeking: 5 is not held; held, and 9 is 5 in bit 0, 5 in all five bits, or its claim in bits 0 and 1
     ∷ leaves (made-up 32 1 31 (live Seeking 5 6 4 0 9 11)) (step 31) 31 (live Seeking 5 6 5 0 9 11)
     ∷ leaves (made-up 32 2 31 (live Seeking 5 6 4 0 9 11)) (step 31) 31 (live Seeking 5 6 5 0 9 11)
@@ -239,45 +239,49 @@ entries-after =
     ∷ leaves (made-up 1 2 0 (live Seeking 5 6 0 1 10 11)) (step 0) 0 (live FinishVoting 5 6 0 1 10 11)
     -- STEP, the finish ballot 2k + 1
     ∷ leaves (made-up 32 2 31 (live FinishVoting 5 6 4 3 9 11)) (step 31) 31 (live FinishAwaiting 5 6 4 3 9 11)
-    ∷ leaves-ballot (beside 32 2 31 (live FinishVoting 5 6 4 3 9 11) 4 (live Waiting 0 9 0 0 0 0)) (step 31) 7 (marks 0 2147483648 false false)
-    ∷ leaves-ballot (beside 32 2 31 (live FinishVoting 5 6 4 3 9 11) 4 (live Waiting 0 25 0 0 0 0)) (step 31) 7 (marks 2147483648 0 false false)
-    ∷ leaves (at-ballot 32 2 31 (live FinishAwaiting 5 6 4 3 9 11) 7 (marks 4 8 true true)) (step 31) 31 (live Decided 5 6 4 3 9 9)
-    ∷ leaves (at-ballot 32 2 31 (live FinishAwaiting 5 6 4 3 9 11) 7 (marks 4 8 true false)) (step 31) 31 (live Voting 5 6 4 4 9 11)
-    ∷ leaves (at-ballot 1 2 0 (live FinishAwaiting 5 6 0 31 9 11) 63 (marks 4 8 true true)) (step 0) 0 (live Decided 5 6 0 31 9 9)
+    ∷ leaves-ballot (beside 32 2 31 (live FinishVoting 5 6 4 3 9 11) 4 (live Waiting 0 9 0 0 0 0)) (step 31) 7 (voted-by 0 2147483648 false false)
+    ∷ leaves-ballot (beside 32 2 31 (live FinishVoting 5 6 4 3 9 11) 4 (live Waiting 0 25 0 0 0 0)) (step 31) 7 (voted-by 2147483648 0 false false)
+    ∷ leaves (at-ballot 32 2 31 (live FinishAwaiting 5 6 4 3 9 11) 7 (voted-by 4 8 true true)) (step 31) 31 (live Decided 5 6 4 3 9 9)
+    ∷ leaves (at-ballot 32 2 31 (live FinishAwaiting 5 6 4 3 9 11) 7 (voted-by 4 8 true false)) (step 31) 31 (live Voting 5 6 4 4 9 11)
+    ∷ leaves (at-ballot 1 2 0 (live FinishAwaiting 5 6 0 31 9 11) 63 (voted-by 4 8 true true)) (step 0) 0 (live Decided 5 6 0 31 9 9)
     -- "Taking answer 0 from ballot 63"
-    ∷ gives (at-ballot 1 2 0 (live FinishAwaiting 5 6 0 31 9 11) 63 (marks 4 8 false false)) (step 0) 8
-    ∷ gives (at-ballot 1 2 0 (live FinishAwaiting 5 6 0 31 9 11) 63 (marks 4 8 true false)) (step 0) 42
-    ∷ gives (at-ballot 1 2 0 (live FinishAwaiting 5 6 0 31 9 11) 63 (marks 4 8 true true)) (step 0) 0
-    ∷ leaves (at-ballot 1 2 0 (live FinishAwaiting 5 6 0 31 9 11) 63 (marks 4 8 true false)) (step 0) 0 (live FinishAwaiting 5 6 0 31 9 11)
+    ∷ gives (at-ballot 1 2 0 (live FinishAwaiting 5 6 0 31 9 11) 63 (voted-by 4 8 false false)) (step 0) 8
+    ∷ gives (at-ballot 1 2 0 (live FinishAwaiting 5 6 0 31 9 11) 63 (voted-by 4 8 true false)) (step 0) 42
+    ∷ gives (at-ballot 1 2 0 (live FinishAwaiting 5 6 0 31 9 11) 63 (voted-by 4 8 true true)) (step 0) 0
+    ∷ leaves (at-ballot 1 2 0 (live FinishAwaiting 5 6 0 31 9 11) 63 (voted-by 4 8 true false)) (step 0) 0 (live FinishAwaiting 5 6 0 31 9 11)
     -- ANSWER
-    ∷ leaves-ballot (at-ballot 32 1 0 (live Awaiting 5 6 4 3 9 11) 4 (marks 4 0 false true)) (answer 4 0) 4 (marks 4 0 true false)
-    ∷ leaves (at-ballot 32 1 0 (live Awaiting 5 6 4 3 9 11) 4 (marks 4 0 false true)) (answer 4 0) 0 (live Awaiting 5 6 4 3 9 11)
-    ∷ leaves-ballot (at-ballot 32 2 0 (live Awaiting 5 6 4 3 9 11) 63 (marks 4 8 false false)) (answer 63 1) 63 (marks 4 8 true true)
-    ∷ leaves-ballot (at-ballot 1 2 0 (lost Awaiting 5 6 0 3 9 11) 0 (marks 0 8 false false)) (answer 0 1) 0 (marks 0 8 true true)
+    ∷ leaves-ballot (at-ballot 32 1 0 (live Awaiting 5 6 4 3 9 11) 4 (voted-by 4 0 false true)) (answer 4 0) 4 (voted-by 4 0 true false)
+    ∷ leaves (at-ballot 32 1 0 (live Awaiting 5 6 4 3 9 11) 4 (voted-by 4 0 false true)) (answer 4 0) 0 (live Awaiting 5 6 4 3 9 11)
+    ∷ leaves-ballot (at-ballot 32 2 0 (live Awaiting 5 6 4 3 9 11) 63 (voted-by 4 8 false false)) (answer 63 1) 63 (voted-by 4 8 true true)
+    ∷ leaves-ballot (at-ballot 1 2 0 (lost Awaiting 5 6 0 3 9 11) 0 (voted-by 0 8 false false)) (answer 0 1) 0 (voted-by 0 8 true true)
     -- the bit that stands again: 0 and nothing changes, though nobody cast it; the other bit: 11, though somebody did
-    ∷ gives (at-ballot 32 1 0 (live Awaiting 5 6 4 3 9 11) 4 (marks 4 0 true false)) (answer 4 0) 0
-    ∷ leaves-ballot (at-ballot 32 1 0 (live Awaiting 5 6 4 3 9 11) 4 (marks 4 0 true false)) (answer 4 0) 4 (marks 4 0 true false)
-    ∷ leaves (at-ballot 32 1 0 (live Awaiting 5 6 4 3 9 11) 4 (marks 4 0 true false)) (answer 4 0) 0 (live Awaiting 5 6 4 3 9 11)
-    ∷ gives (at-ballot 32 2 0 (lost Idle 5 6 4 3 9 11) 63 (marks 0 0 true true)) (answer 63 1) 0
-    ∷ leaves-ballot (at-ballot 32 2 0 (lost Idle 5 6 4 3 9 11) 63 (marks 0 0 true true)) (answer 63 1) 63 (marks 0 0 true true)
-    ∷ gives (at-ballot 32 2 0 (live Idle 5 6 4 3 9 11) 63 (marks 0 0 true false)) (answer 63 0) 0
-    ∷ leaves-ballot (at-ballot 32 2 0 (live Idle 5 6 4 3 9 11) 63 (marks 0 0 true false)) (answer 63 0) 63 (marks 0 0 true false)
-    ∷ gives (at-ballot 32 1 0 (live Idle 5 6 4 3 9 11) 4 (marks 4 8 true false)) (answer 4 1) 11
-    ∷ gives (at-ballot 32 2 0 (live Idle 5 6 4 3 9 11) 63 (marks 0 0 true true)) (answer 63 0) 11
-    ∷ leaves-ballot (at-ballot 32 2 0 (live Idle 5 6 4 3 9 11) 63 (marks 0 0 true true)) (answer 63 0) 63 (marks 0 0 true true)
-    ∷ gives (at-ballot 3 1 2 (live Decided 5 6 3 1 9 11) 0 (marks 4 8 true true)) (answer 0 1) 42
-    ∷ gives (at-ballot 3 2 2 (live Decided 5 6 3 1 9 11) 0 (marks 4 8 true true)) (answer 0 0) 42
+    ∷ gives (at-ballot 32 1 0 (live Awaiting 5 6 4 3 9 11) 4 (voted-by 4 0 true false)) (answer 4 0) 0
+    ∷ leaves-ballot (at-ballot 32 1 0 (live Awaiting 5 6 4 3 9 11) 4 (voted-by 4 0 true false)) (answer 4 0) 4 (voted-by 4 0 true false)
+    ∷ leaves (at-ballot 32 1 0 (live Awaiting 5 6 4 3 9 11) 4 (voted-by 4 0 true false)) (answer 4 0) 0 (live Awaiting 5 6 4 3 9 11)
+    ∷ gives (at-ballot 32 2 0 (lost Idle 5 6 4 3 9 11) 63 (voted-by 0 0 true true)) (answer 63 1) 0
+    ∷ leaves-ballot (at-ballot 32 2 0 (lost Idle 5 6 4 3 9 11) 63 (voted-by 0 0 true true)) (answer 63 1) 63 (voted-by 0 0 true true)
+    ∷ gives (at-ballot 32 2 0 (live Idle 5 6 4 3 9 11) 63 (voted-by 0 0 true false)) (answer 63 0) 0
+    ∷ leaves-ballot (at-ballot 32 2 0 (live Idle 5 6 4 3 9 11) 63 (voted-by 0 0 true false)) (answer 63 0) 63 (voted-by 0 0 true false)
+    ∷ gives (at-ballot 32 1 0 (live Idle 5 6 4 3 9 11) 4 (voted-by 4 8 true false)) (answer 4 1) 11
+    ∷ gives (at-ballot 32 2 0 (live Idle 5 6 4 3 9 11) 63 (voted-by 0 0 true true)) (answer 63 0) 11
+    ∷ leaves-ballot (at-ballot 32 2 0 (live Idle 5 6 4 3 9 11) 63 (voted-by 0 0 true true)) (answer 63 0) 63 (voted-by 0 0 true true)
+    ∷ gives (at-ballot 3 1 2 (live Decided 5 6 3 1 9 11) 0 (voted-by 4 8 true true)) (answer 0 1) 42
+    ∷ gives (at-ballot 3 2 2 (live Decided 5 6 3 1 9 11) 0 (voted-by 4 8 true true)) (answer 0 0) 42
     -- LOSE of a voter, and a vote beside other voters: "A vote counts though its voter is lost later"
-    ∷ leaves-ballot (at-ballot 4 1 2 (live Awaiting 5 6 3 1 9 11) 1 (marks 4 8 false false)) (lose 2) 1 (marks 4 8 false false)
-    ∷ leaves-ballot (at-ballot 4 1 2 (live Voting 5 6 3 1 9 11) 1 (marks 8 1 true false)) (step 2) 1 (marks 8 5 true false)
-    ∷ leaves-ballot (at-ballot 4 1 2 (live Voting 5 6 1 1 9 11) 1 (marks 8 1 true false)) (step 2) 1 (marks 12 1 true false)
+    ∷ leaves-ballot (at-ballot 4 1 2 (live Awaiting 5 6 3 1 9 11) 1 (voted-by 4 8 false false)) (lose 2) 1 (voted-by 4 8 false false)
+    ∷ leaves-ballot (at-ballot 4 1 2 (live Voting 5 6 3 1 9 11) 1 (voted-by 8 1 true false)) (step 2) 1 (voted-by 8 5 true false)
+    ∷ leaves-ballot (at-ballot 4 1 2 (live Voting 5 6 1 1 9 11) 1 (voted-by 8 1 true false)) (step 2) 1 (voted-by 12 1 true false)
+    -- made up: members from n on, and sets that meet, stay as they are beside the voter
+    ∷ leaves-ballot (at-ballot 1 2 0 (live Voting 5 6 0 0 9 11) 0 (voted-by 8 9 true true)) (step 0) 0 (voted-by 9 9 true true)
+    ∷ leaves-ballot (at-ballot 1 2 0 (live Voting 5 7 0 0 9 11) 0 (voted-by 9 8 false true)) (step 0) 0 (voted-by 9 9 false true)
+    ∷ leaves-ballot (at-ballot 2 2 1 (live FinishVoting 5 6 0 1 9 11) 3 (voted-by 4294967292 4294967292 true false)) (step 1) 3 (voted-by 4294967294 4294967292 true false)
     -- the other entries: a station beside, one from n on, and the sender; ballot 0, and a ballot that is not voted in
     ∷ leaves (made-up 3 2 1 (live Waiting 5 6 2 3 9 11)) (lose 0) 1 (live Waiting 5 6 2 3 9 11)
     ∷ leaves (made-up 2 1 31 (live Idle 5 6 4 3 9 11)) (claim 0 7) 31 (live Idle 5 6 4 3 9 11)
     ∷ leaves (beside 32 1 0 (live Seeking 5 6 4 3 9 11) 31 (live Waiting 5 8 4 3 9 11)) (deliver 31 0) 31 (live Waiting 5 8 4 3 9 11)
-    ∷ leaves-ballot (at-ballot 32 1 31 (live Voting 5 6 4 2 9 11) 0 (marks 4 0 true false)) (step 31) 0 (marks 4 0 true false)
-    ∷ leaves-ballot (at-ballot 32 2 31 (live Seeking 5 6 4 2 9 11) 4 (marks 4 0 true false)) (step 31) 4 (marks 4 0 true false)
-    ∷ leaves-ballot (at-ballot 1 2 0 (live Idle 5 6 0 2 9 11) 0 (marks 4 0 true false)) (claim 0 7) 0 (marks 4 0 true false)
+    ∷ leaves-ballot (at-ballot 32 1 31 (live Voting 5 6 4 2 9 11) 0 (voted-by 4 0 true false)) (step 31) 0 (voted-by 4 0 true false)
+    ∷ leaves-ballot (at-ballot 32 2 31 (live Seeking 5 6 4 2 9 11) 4 (voted-by 4 0 true false)) (step 31) 4 (voted-by 4 0 true false)
+    ∷ leaves-ballot (at-ballot 1 2 0 (live Idle 5 6 0 2 9 11) 0 (voted-by 4 0 true false)) (claim 0 7) 0 (voted-by 4 0 true false)
     -- "A record without stations has no ballots under either rule"; a lone station by station has none
     ∷ gives (fresh 0 1) (answer 0 0) 9 ∷ gives (fresh 0 2) (answer 0 0) 9 ∷ gives (fresh 1 1) (answer 0 0) 9 ∷ gives (fresh 1 2) (answer 63 0) 12
     ∷ []
@@ -291,7 +295,7 @@ abbrev idle-31 : Settlement
 idle-31 = made-up 32 1 31 (live Idle 5 6 4 3 9 11)
 
 abbrev cast-1 : Settlement
-cast-1 = at-ballot 1 2 0 (live Awaiting 5 6 0 3 9 11) 0 (marks 0 8 false false)
+cast-1 = at-ballot 1 2 0 (live Awaiting 5 6 0 3 9 11) 0 (voted-by 0 8 false false)
 
 abbrev decided-31 : Settlement
 decided-31 = made-up 32 2 31 (live Decided 5 6 4 3 9 11)
@@ -303,11 +307,11 @@ wrong =
     ∷ leaves idle-31 (lose 31) 31 (lost Idle 4 6 4 3 9 11) ∷ leaves idle-31 (lose 31) 31 (lost Idle 5 7 4 3 9 11)
     ∷ leaves idle-31 (lose 31) 31 (lost Idle 5 6 5 3 9 11) ∷ leaves idle-31 (lose 31) 31 (lost Idle 5 6 4 2 9 11)
     ∷ leaves idle-31 (lose 31) 31 (lost Idle 5 6 4 3 8 11) ∷ leaves idle-31 (lose 31) 31 (lost Idle 5 6 4 3 9 12)
-    ∷ leaves-ballot cast-1 (answer 0 1) 0 (marks 4 8 true true) ∷ leaves-ballot cast-1 (answer 0 1) 0 (marks 0 0 true true)
-    ∷ leaves-ballot cast-1 (answer 0 1) 0 (marks 0 8 false true) ∷ leaves-ballot cast-1 (answer 0 1) 0 (marks 0 8 true false)
+    ∷ leaves-ballot cast-1 (answer 0 1) 0 (voted-by 4 8 true true) ∷ leaves-ballot cast-1 (answer 0 1) 0 (voted-by 0 0 true true)
+    ∷ leaves-ballot cast-1 (answer 0 1) 0 (voted-by 0 8 false true) ∷ leaves-ballot cast-1 (answer 0 1) 0 (voted-by 0 8 true false)
     ∷ shows decided-31 31 1 true 11 8 ∷ shows decided-31 31 0 false 11 8 ∷ shows decided-31 31 0 true 6 8 ∷ shows decided-31 31 0 true 11 7
     ∷ tallies cast-1 0 1 0 8 0 1 false false ∷ tallies cast-1 0 0 8 0 1 0 false false ∷ tallies cast-1 0 0 1 8 0 1 false false
-    ∷ tallies cast-1 0 0 0 8 1 1 false false ∷ tallies cast-1 0 0 0 8 0 2 false false ∷ tallies cast-1 0 0 0 8 0 1 true false
+    ∷ tallies cast-1 0 0 0 9 0 1 false false ∷ tallies cast-1 0 0 0 8 1 1 false false ∷ tallies cast-1 0 0 0 8 0 2 false false ∷ tallies cast-1 0 0 0 8 0 1 true false
     ∷ tallies cast-1 0 0 0 8 0 1 false true
     ∷ []
 

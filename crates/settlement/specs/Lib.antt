@@ -9,7 +9,7 @@
 --     Demands   demands 2 and 3 about the operations, over whole lists
 --     Laws      what the documents say of every record, in their words and numbers
 --     Voters    who voted which way: a look at a ballot in words, and the sets over whole lists
---     Edges     the edges of the record test, as one list
+--     Edges     edges of OPEN, the record test, both LOOKs and the events, as one list
 pub mod Record
 pub mod Fault
 pub mod Events

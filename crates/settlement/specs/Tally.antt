@@ -1,4 +1,5 @@
--- LOOK at a ballot, whole (document 02, A.2). On any record: the sets are shown as they stand, a number from n on too. Assumes nothing.
+-- LOOK at a ballot, whole (document 02, A.2). On any record: the sets are shown as they stand, and a member from n on counts too.
+-- Assumes nothing.
 use Prim.Native.Nat.{ℕ}
 use mathlib.Core.Bool.{false, cond, _&&_}
 use mathlib.Core.List.{List, [], _∷_}
