@@ -6,6 +6,8 @@
 --     Entry      what an entry's proof has beside the walk
 --     Lent       the walk of an event's entry
 --     Lending    the walk of a function that lends a local to an entry
+--     Questions  a question by value, and the same question about a lent settlement
+--     Asked      the walk of a question's entry
 --     Lists      lists of events on one lent settlement
 pub mod Numbers
 pub mod Settled
@@ -14,4 +16,6 @@ pub mod Stored
 pub mod Entry
 pub mod Lent
 pub mod Lending
+pub mod Questions
+pub mod Asked
 pub mod Lists
