@@ -56,7 +56,7 @@ lent-type = tyRef erased mut (pointee (S.the-row .written))
 
 -- ---- a settlement in a local, as what may be lent, and back
 module _ {M : Type 1} (𝓤 : URA M) (H : Heap 𝓤) (A : Atoms 𝓤) (W : Given 𝓤 H A) where
-  lies-in : (h : Settlement) (l : ℕ) → Known h → ent 𝓤 (H .at fullShare S′.mir l 0 (val h)) (sem 𝓤 H A (mem S.the-row .lies h l 0))
+  pub lies-in : (h : Settlement) (l : ℕ) → Known h → ent 𝓤 (H .at fullShare S′.mir l 0 (val h)) (sem 𝓤 H A (mem S.the-row .lies h l 0))
   unfolding partOf
   lies-in h l is =
       qed W (‵ (fat fullShare S′.mir l 0 (val h)) ∷ []) ∵
@@ -65,7 +65,7 @@ module _ {M : Type 1} (𝓤 : URA M) (H : Heap 𝓤) (A : Atoms 𝓤) (W : Given
       fpack ! (List Val) (λ vs. fsep (cellAt fullShare (S.the-row .mir) vs l 0) (S.the-row .own h vs)) (vals h) $ done !
 
 module _ {M : Type 1} {𝓤 : URA M} {H : Heap 𝓤} {A : Atoms 𝓤} {K : Type 0} {W : Given 𝓤 H A} {Γ : List (Item 𝓤)} {G : Goal 𝓤 H} where
-  lies-out : K → (h : Settlement) (l : ℕ) → (Known h → Seq K W (‵ (fat fullShare S′.mir l 0 (val h)) ∷ Γ) G)
+  pub lies-out : K → (h : Settlement) (l : ℕ) → (Known h → Seq K W (‵ (fat fullShare S′.mir l 0 (val h)) ∷ Γ) G)
       → Seq K W (‵ (mem S.the-row .lies h l 0) ∷ Γ) G
   unfolding partOf
   lies-out t h l k =

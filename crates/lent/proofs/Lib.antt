@@ -8,6 +8,7 @@
 --     Lending    the walk of a function that lends a local to an entry
 --     Questions  a question by value, and the same question about a lent settlement
 --     Asked      the walk of a question's entry
+--     Asking     the walk of a function that lends a copy to a question's entry
 --     Lists      lists of events on one lent settlement
 pub mod Numbers
 pub mod Settled
@@ -18,4 +19,5 @@ pub mod Lent
 pub mod Lending
 pub mod Questions
 pub mod Asked
+pub mod Asking
 pub mod Lists
