@@ -1,17 +1,25 @@
-// The lent entries behind functions by value: each lends a local to an entry and hands it back, so that a caller needs no reference.
+// The lent entries behind functions by value: each lends a local to an entry and hands it back, or the answer of a LOOK, so that a caller needs no
+// reference.
 ghost use mathlib.Core.Path.{_≡_};
 ghost use Rattle.consensus.specs.Events.{claim, deliver, step, lose, answer};
-ghost use Rattle.settlement.specs.Events.{played};
+ghost use Rattle.settlement.specs.Events.{opened, played};
+ghost use Rattle.settlement.specs.Look.{looked};
+ghost use Rattle.settlement.specs.Tally.{tallied};
 ghost use Rattle.event.specs.Meant.{meant};
 use crate::events::answer_lent;
 use crate::events::claim_lent;
 use crate::events::deliver_lent;
 use crate::events::lose_lent;
 use crate::events::step_lent;
+use crate::opening::look_ballot_lent;
+use crate::opening::look_lent;
+use crate::opening::open_lent;
 use bits::word::Word;
 use event::event::Event;
 use settlement::record::Outcome;
 use settlement::record::Settlement;
+use settlement::record::Standing;
+use settlement::record::Tally;
 
 // CLAIM s, v.
 pub fn claim_through(r: Settlement, s: u8, v: Word) -> Outcome
@@ -84,4 +92,32 @@ pub fn play_through(r: Settlement, e: Event) -> Outcome
         Event::Lose { s } => lose_through(r, s),
         Event::Answer { b, a } => answer_through(r, b, a),
     }
+}
+
+// OPEN n, rule, where r stood.
+pub fn open_through(r: Settlement, n: u8, rule: u8) -> Outcome
+    ensures { λ x. ⌜ x ≡ opened n rule ⌝ }
+{
+    let mut lent = r;
+    let number = open_lent(&mut lent, n, rule);
+    Outcome {
+        number,
+        settlement: lent,
+    }
+}
+
+// LOOK s at a copy that is lent.
+pub fn look_through(r: Settlement, s: u8) -> Standing
+    ensures { λ x. ⌜ x ≡ looked r s ⌝ }
+{
+    let lent = r;
+    look_lent(&lent, s)
+}
+
+// LOOK at ballot b of a copy that is lent.
+pub fn look_ballot_through(r: Settlement, b: u8) -> Tally
+    ensures { λ x. ⌜ x ≡ tallied r b ⌝ }
+{
+    let lent = r;
+    look_ballot_lent(&lent, b)
 }

@@ -2,7 +2,6 @@
 // A script is written as a log is, tag, two-byte length and body, with more tags than a log has (`command.rt`): so records may be made up
 // entry by entry, and BODY, REST, READ, RUN and lengths asked. The same scripts are answered by a reading of document 01 in conformance/.
 mod command;
-mod lending;
 mod made_up;
 mod parts;
 mod print;

@@ -1,9 +1,9 @@
 // OPEN, the five events, LOOK, and LOOK at a ballot.
-use crate::lending::look_ballot_through;
-use crate::lending::look_through;
-use crate::lending::open_through;
 use crate::print;
 use event::event::Event;
+use lent::through::look_ballot_through;
+use lent::through::look_through;
+use lent::through::open_through;
 use lent::through::play_through;
 use settlement::record::Outcome;
 use settlement::record::Settlement;
