@@ -40,7 +40,7 @@ pub fn voted(log: &[u8]) -> Answer {
 
 /// The lines, their columns as wide as they need.
 fn lines(settlement: &Settlement) -> String {
-    let tallies = (0..).map_while(|b: u8| Some((b, settlement.look_ballot(b).ok()?)));
+    let tallies = (0..=u8::MAX).map_while(|b| Some((b, settlement.look_ballot(b).ok()?)));
     let rows: Vec<[String; 4]> = tallies.filter(|(_, tally)| tally.votes() > 0).map(row).collect();
     let width = |column: usize| rows.iter().map(|row| row[column].len()).max().unwrap_or(0);
     let [first, second, third] = [0, 1, 2].map(width);
