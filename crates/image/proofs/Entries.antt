@@ -1,15 +1,17 @@
 -- An entry and its bytes, both ways. Assumes nothing.
-use Prim.Native.Nat.{ℕ, zero, suc, _≤_}
-use mathlib.Core.Path.{_≡_, refl, sym, _∙_}
-use mathlib.Core.Bool.{Bool, true, false}
+use Prim.Native.Nat.{ℕ, zero, suc, _≤_, suc-le-suc}
+use mathlib.Core.Path.{_≡_, refl, subst}
+use mathlib.Core.Bool.{Bool, true, false, _||_}
 use mathlib.Core.List.{List, [], _∷_, _++_}
+use native.Mathlib.Nat.{lt-of-lt-of-le, le-of-suc-le-suc}
 use native.Mathlib.Omega.{arith}
-use borrow.Author.Tests.{ltb-false}
+use borrow.Author.Tests.{lt-ltb, le-ltb, ltb-true, ltb-false}
+use lib.Bits.{bitOr, or-add-and, and-le-r, or-comm, or-lt}
 use lib.Dec.{ltb}
 use lib.ListN.{length, take}
 use Rattle.basics.specs.Bytes.{byte, In-bytes}
 use Rattle.basics.proofs.Bytes.{four-again, bytes-again}
-use Rattle.basics.proofs.Bools.{or-false}
+use Rattle.basics.proofs.Bools.{by-bool, or-false}
 use Rattle.entry.specs.declared.entry.Stage.{Stage}
 use Rattle.entry.specs.declared.entry.Stage.the-variants.{Idle, Waiting, Voting, Awaiting, Seeking, FinishVoting, FinishAwaiting, Decided}
 use Rattle.entry.specs.declared.entry.Station.{Station}
@@ -56,6 +58,19 @@ byte-again (suc (suc x)) h = absurd (omega arith)
 -- a byte that is no other than 0 and 1
 small : (x : ℕ) → no-mark x ≡ false → x ≤ 1
 small x e = ltb-false 1 x e
+
+-- marks laid over one another are one where each is
+or-above : (x y : ℕ) → x ≤ bitOr x y
+or-above x y = let sum = or-add-and x y in let low = and-le-r x y in omega (arith, sum, low)
+
+pub marks-or : (x y : ℕ) → no-mark (bitOr x y) ≡ (no-mark x || no-mark y)
+marks-or x y =
+    by-bool (no-mark x)
+    (λ e. rw e (lt-ltb 1 (bitOr x y) (lt-of-lt-of-le (ltb-true 1 x e) (or-above x y))))
+    (λ e.
+    by-bool (no-mark y)
+    (λ f. rw (e, f) (lt-ltb 1 (bitOr x y) (lt-of-lt-of-le (ltb-true 1 y f) (subst (λ (z : ℕ). y ≤ z) (or-comm y x) (or-above y x)))))
+    (λ f. rw (e, f) (le-ltb 1 (bitOr x y) (le-of-suc-le-suc (or-lt 1 x y (suc-le-suc (small x e)) (suc-le-suc (small y f)))))))
 
 stage-exists : (g : Stage) → ltb 7 (rank g) ≡ false
 stage-exists Idle = refl

@@ -30,19 +30,19 @@ fn some_station_unread(image: &[u8]) -> bool
     found
 }
 
-// Whether a ballot has a mark that does not exist.
+// Whether a ballot has a mark that does not exist: all marks laid over one another are one where each is.
 fn some_ballot_unread(image: &[u8]) -> bool
     requires { ⌜ length (now image) ≡ image-bytes ⌝ }
     ensures { λ x. ⌜ x ≡ any-below ballot-entries (λ k. ballot-unread (drop (ballot-at k) (now (image .entry)))) ⌝ }
 {
-    let mut found = false;
+    let mut marks: u8 = 0;
     let mut k: usize = 0;
     while k < BALLOT_ENTRIES {
         let at = BALLOTS + BALLOT_WIDTH * k;
-        found = (1 < image[at + 8]) | (1 < image[at + 9]) | found;
+        marks = marks | image[at + 8] | image[at + 9];
         k += 1;
     }
-    found
+    1 < marks
 }
 
 // 0 for an image, else the number of what the bytes are.

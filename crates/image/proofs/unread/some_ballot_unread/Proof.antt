@@ -1,30 +1,45 @@
--- `image::unread::some_ballot_unread`: `found` is the definition at the ballots passed; the measure is what is left of them. Assumes nothing.
-use Prim.Native.Nat.{ℕ, _≤_, _-_}
+-- `image::unread::some_ballot_unread`: the marks laid over one another tell the definition at the ballots passed; the measure is what is left of them.
+-- Assumes nothing.
+use Prim.Native.Nat.{ℕ, _+_, _≤_, _-_}
 use mathlib.Core.Path.{_≡_, refl, ap, _∙_}
-use mathlib.Core.Bool.{Bool}
+use mathlib.Core.Bool.{Bool, true, false, _||_}
 use mathlib.Core.List.{List}
 use native.Mathlib.Omega.{arith}
 use native.Mathlib.Numerals.{add-one}
-use native.Mathlib.Nat.{add-zero}
+use lib.Bits.{bitOr}
 use lib.ListN.{drop}
 use lib.Seq.{getD-drop}
 use denote.Ref.{now}
 use borrow.Author.Needs.{needs}
 use Rattle.basics.specs.Below.{any-below}
+use Rattle.basics.specs.Bytes.{byte}
 use Rattle.entry.specs.Entries.{ballot-entries}
-use Rattle.image.specs.Entries.{ballot-unread}
+use Rattle.image.specs.Entries.{no-mark, ballot-unread}
 use Rattle.image.specs.Image.{ballot-at}
+use Rattle.image.proofs.Entries.{marks-or}
 use Rattle.image.proofs.unread.some_ballot_unread.Statement.{statement}
 use Rattle.image.proofs.unread.some_ballot_unread.Tie as tie
 
 abbrev unread-at : List ℕ → ℕ → Bool
 unread-at image k = ballot-unread (drop (ballot-at k) image)
 
+-- two marks more
+more : (marks x y : ℕ) → no-mark (bitOr (bitOr marks x) y) ≡ ((no-mark x || no-mark y) || no-mark marks)
+more marks x y = marks-or (bitOr marks x) y ∙ ap (λ (b : Bool). b || no-mark y) (marks-or marks x) ∙ turned (no-mark marks) (no-mark x) (no-mark y)
+  where
+    turned : (a b c : Bool) → ((a || b) || c) ≡ ((b || c) || a)
+    turned true true c = refl
+    turned true false true = refl
+    turned true false false = refl
+    turned false true c = refl
+    turned false false true = refl
+    turned false false false = refl
+
 abbrev Inv-loop : tie.InvT-loop
-Inv-loop image found₀ k₀ found k = (k ≤ ballot-entries) × (found ≡ any-below k (unread-at image))
+Inv-loop image marks₀ k₀ marks k = (k ≤ ballot-entries) × (no-mark marks ≡ any-below k (unread-at image))
 
 abbrev μ-loop : tie.MeasureT-loop
-μ-loop image found₀ k₀ found k = ballot-entries - k
+μ-loop image marks₀ k₀ marks k = ballot-entries - k
 
 loop-holds : tie.Need-loop-holds Inv-loop μ-loop
 unfolding any-below
@@ -36,17 +51,17 @@ mul-at c = omega arith
 add-at : tie.Need-add-at Inv-loop μ-loop
 add-at c = omega arith
 
-add-found : tie.Need-add-found Inv-loop μ-loop
-add-found c = omega arith
+add-marks : tie.Need-add-marks Inv-loop μ-loop
+add-marks c = omega arith
 
-shared-slice-read-found : tie.Need-shared-slice-read-found Inv-loop μ-loop
-shared-slice-read-found c = omega (arith, c .before .before .before .pre)
+shared-slice-read-marks : tie.Need-shared-slice-read-marks Inv-loop μ-loop
+shared-slice-read-marks c = omega (arith, c .before .before .before .pre)
 
-add-found-2 : tie.Need-add-found-2 Inv-loop μ-loop
-add-found-2 c = omega arith
+add-marks-2 : tie.Need-add-marks-2 Inv-loop μ-loop
+add-marks-2 c = omega arith
 
-shared-slice-read-found-2 : tie.Need-shared-slice-read-found-2 Inv-loop μ-loop
-shared-slice-read-found-2 c = omega (arith, c .before .before .before .before .pre)
+shared-slice-read-marks-2 : tie.Need-shared-slice-read-marks-2 Inv-loop μ-loop
+shared-slice-read-marks-2 c = omega (arith, c .before .before .before .before .pre)
 
 add-k : tie.Need-add-k Inv-loop μ-loop
 add-k c = omega arith
@@ -58,8 +73,10 @@ loop-again : tie.Need-loop-again Inv-loop μ-loop
 unfolding any-below
 loop-again c =
     let image = c .before .before .before .before .args .image .now in
-    let at = ballot-at (c .before .before .before .loop .k) in
-    (omega arith, rw (add-one (c .before .before .before .loop .k), c .before .before .before .loop .inv .1, getD-drop at image 8 0, getD-drop at image 9 0))
+    let k = c .before .before .before .loop .k in
+    let at = ballot-at k in
+    let marks = c .before .before .before .loop .marks in
+    (omega arith, rw (add-one k, ← c .before .before .before .loop .inv .1, getD-drop at image 8 0, getD-drop at image 9 0) (more marks (byte image (at + 8)) (byte image (at + 9))))
 
 returns : tie.Need-returns Inv-loop μ-loop
 returns c =
@@ -76,10 +93,10 @@ some-ballot-unread-spec =
     loop-holds
     mul-at
     add-at
-    add-found
-    shared-slice-read-found
-    add-found-2
-    shared-slice-read-found-2
+    add-marks
+    shared-slice-read-marks
+    add-marks-2
+    shared-slice-read-marks-2
     add-k
     loop-less
     loop-again
