@@ -39,7 +39,7 @@ fn some_ballot_unread(image: &[u8]) -> bool
     let mut k: usize = 0;
     while k < BALLOT_ENTRIES {
         let at = BALLOTS + BALLOT_WIDTH * k;
-        marks = marks | image[at + 8] | image[at + 9];
+        marks = image[at + 8] | image[at + 9] | marks;
         k += 1;
     }
     1 < marks

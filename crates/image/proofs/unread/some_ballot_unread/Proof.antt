@@ -2,7 +2,7 @@
 -- Assumes nothing.
 use Prim.Native.Nat.{ℕ, _+_, _≤_, _-_}
 use mathlib.Core.Path.{_≡_, refl, ap, _∙_}
-use mathlib.Core.Bool.{Bool, true, false, _||_}
+use mathlib.Core.Bool.{Bool, _||_}
 use mathlib.Core.List.{List}
 use native.Mathlib.Omega.{arith}
 use native.Mathlib.Numerals.{add-one}
@@ -24,16 +24,8 @@ abbrev unread-at : List ℕ → ℕ → Bool
 unread-at image k = ballot-unread (drop (ballot-at k) image)
 
 -- two marks more
-more : (marks x y : ℕ) → no-mark (bitOr (bitOr marks x) y) ≡ ((no-mark x || no-mark y) || no-mark marks)
-more marks x y = marks-or (bitOr marks x) y ∙ ap (λ (b : Bool). b || no-mark y) (marks-or marks x) ∙ turned (no-mark marks) (no-mark x) (no-mark y)
-  where
-    turned : (a b c : Bool) → ((a || b) || c) ≡ ((b || c) || a)
-    turned true true c = refl
-    turned true false true = refl
-    turned true false false = refl
-    turned false true c = refl
-    turned false false true = refl
-    turned false false false = refl
+more : (marks x y : ℕ) → no-mark (bitOr (bitOr x y) marks) ≡ ((no-mark x || no-mark y) || no-mark marks)
+more marks x y = marks-or (bitOr x y) marks ∙ ap (λ (b : Bool). b || no-mark marks) (marks-or x y)
 
 abbrev Inv-loop : tie.InvT-loop
 Inv-loop image marks₀ k₀ marks k = (k ≤ ballot-entries) × (no-mark marks ≡ any-below k (unread-at image))
