@@ -126,7 +126,7 @@ numbers =
     ∷ gives (alone 2 1 blank-station) (lose 2) 1
     ∷ gives (alone 2 1 (gone Idle)) (lose 2) 1
     ∷ gives (alone 2 1 (gone Decided)) (lose 1) 2
-    -- ANSWER: 9, 10, 11, 12; the bit that stands: 0, though nobody cast it; a bit beside no answer does not stand
+    -- ANSWER: 9, 10, 11, 12; the bit that stands: 0, though nobody cast it; a bit beside no answer does not stand; a member from n on counts
     ∷ gives (alone 32 1 blank-station) (answer 5 0) 9
     ∷ gives (alone 32 2 blank-station) (answer 64 0) 9
     ∷ gives (alone 1 1 blank-station) (answer 0 0) 9
@@ -150,6 +150,9 @@ numbers =
     ∷ gives (seen 1 2 blank-station five (voted-by 0 8 true false)) (answer 0 1) 11
     ∷ gives (seen 2 1 blank-station five (voted-by 4 0 false true)) (answer 0 1) 12
     ∷ gives (seen 2 1 blank-station five (voted-by 0 8 false false)) (answer 0 0) 12
+    ∷ gives (seen 2 1 blank-station five (voted-by 65536 0 false true)) (answer 0 0) 0
+    ∷ gives (seen 2 1 blank-station five (voted-by 65536 0 false true)) (answer 0 1) 12
+    ∷ gives (seen 2 2 blank-station five (voted-by 0 2147483648 false false)) (answer 63 1) 0
     ∷ gives (alone 32 1 blank-station) (answer 4 0) 12
     ∷ gives (seen 32 2 blank-station five (voted-by 4 0 false false)) (answer 63 1) 12
     ∷ gives (seen 1 2 blank-station five (voted-by 0 8 false false)) (answer 0 0) 12
@@ -169,6 +172,7 @@ entries =
     -- LOSE: the mark
     ∷ leaves (seen 1 1 blank-station blank-station blank-ballot) (lose 0) (lost Idle 0 0 0 0 0 0) (voted-by 0 0 false false)
     ∷ leaves (seen 4 2 (made Decided) five no) (lose 1) (lost Decided 6 7 1 3 5 9) no
+    ∷ leaves (seen 4 1 (made Awaiting) five (voted-by 2 2 true true)) (lose 1) (lost Awaiting 6 7 1 3 5 9) (voted-by 2 2 true true)
     -- ANSWER: the ballot's answer; any bit cast may be given
     ∷ leaves (seen 32 1 (made Seeking) five (voted-by 4 0 false true)) (answer 4 0) (live Seeking 6 7 1 3 5 9) (voted-by 4 0 true false)
     ∷ leaves (seen 32 2 (gone Decided) five (voted-by 0 8 false false)) (answer 63 1) (lost Decided 6 7 1 3 5 9) (voted-by 0 8 true true)

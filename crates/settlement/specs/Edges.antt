@@ -267,6 +267,10 @@ entries-after =
     ∷ leaves-ballot (at-ballot 32 2 0 (live Idle 5 6 4 3 9 11) 63 (voted-by 0 0 true true)) (answer 63 0) 63 (voted-by 0 0 true true)
     ∷ gives (at-ballot 3 1 2 (live Decided 5 6 3 1 9 11) 0 (voted-by 4 8 true true)) (answer 0 1) 42
     ∷ gives (at-ballot 3 2 2 (live Decided 5 6 3 1 9 11) 0 (voted-by 4 8 true true)) (answer 0 0) 42
+    -- a member from n on counts as one who cast the bit
+    ∷ gives (at-ballot 2 1 0 (live Awaiting 5 6 1 0 9 11) 0 (voted-by 4 0 false false)) (answer 0 0) 0
+    ∷ gives (at-ballot 2 1 0 (live Awaiting 5 6 1 0 9 11) 0 (voted-by 4 0 false false)) (answer 0 1) 12
+    ∷ leaves-ballot (at-ballot 2 1 0 (live Awaiting 5 6 1 0 9 11) 0 (voted-by 1 2 true false)) (lose 0) 0 (voted-by 1 2 true false)
     -- LOSE of a voter, and a vote beside other voters: "A vote counts though its voter is lost later"
     ∷ leaves-ballot (at-ballot 4 1 2 (live Awaiting 5 6 3 1 9 11) 1 (voted-by 4 8 false false)) (lose 2) 1 (voted-by 4 8 false false)
     ∷ leaves-ballot (at-ballot 4 1 2 (live Voting 5 6 3 1 9 11) 1 (voted-by 8 1 true false)) (step 2) 1 (voted-by 8 5 true false)
