@@ -9,7 +9,7 @@ use native.Mathlib.Numerals.{add-one}
 use borrow.Author.Tests.{eqb-true, eq-eqb, ne-eqb, le-ltb}
 use lib.Dec.{eqb, ltb}
 use lib.ListN.{length, take, drop, getD, length-append, length-drop}
-use lib.Seq.{getD-drop, drop-drop, drop-at, take-all, take-add, drop-append-le}
+use lib.Seq.{drop-drop, drop-at, take-all, take-add, drop-append-le}
 use Rattle.basics.specs.Bytes.{byte, four-from, In-bytes, over}
 use Rattle.basics.specs.Below.{any-below}
 use Rattle.basics.specs.Tests.{refuse, first-met}

@@ -6,7 +6,7 @@ use mathlib.Core.Bool.{true, cond}
 use mathlib.Core.Logic.{⊎-elim}
 use mathlib.Core.List.{List}
 use lib.Dec.{eqb}
-use borrow.Author.Tests.{eqb-false}
+use borrow.Author.Tests.{eqb-false, ne-eqb}
 use Rattle.basics.proofs.Bools.{by-bool}
 use Rattle.consensus.specs.Events.{Event, History, start, _▷_, Opening, Openable}
 use Rattle.consensus.specs.Rules.{number}
@@ -21,14 +21,14 @@ use Rattle.settlement.specs.Link.{record-after}
 use Rattle.settlement.specs.Demands.{Demand3-of-records}
 use Rattle.settlement.proofs.Demand1.{demand1}
 use Rattle.settlement.proofs.Link.Demands.{demands}
-use Rattle.image.specs.Image.{image-of, record-in, no-image, Record-fits}
+use Rattle.image.specs.Image.{image-of, record-in, no-image, tested-first, Record-fits}
 use Rattle.image.proofs.Image.{an-image, record-again}
 use Rattle.on_image.specs.Events.{image-number, image-after}
-use Rattle.on_image.specs.Look.{looked-on}
-use Rattle.on_image.specs.Tally.{by-value}
-use Rattle.on_image.specs.Lists.{Stands, Demand3-on-image, Image-lists}
+use Rattle.on_image.specs.Look.{looked-on, all-number}
+use Rattle.on_image.specs.Tally.{tally-number, by-value}
+use Rattle.on_image.specs.Lists.{Stands, Demand3-on-image, No-image, Image-lists}
 use Rattle.on_image.proofs.Laws.{on-image}
-use Rattle.on_image.proofs.Looks.{image-shown}
+use Rattle.on_image.proofs.Looks.{image-shown, no-image-shown}
 use Rattle.image.proofs.Fits.{after-fits}
 
 -- ---- one event on the image of a record whose numbers fit
@@ -104,5 +104,18 @@ module _ (o : Opening) (a : Openable o) (h : History) (f : Claims-fit h) where
     looks-agree = agree;
   }
 
+-- bytes that are no image
+tested-none : (b : List ℕ) (x : ℕ) → (no-image b ≡ 0 → ⊥) → tested-first b x ≡ no-image b
+tested-none b x n = rw (ne-eqb (no-image b) 0 n)
+
+none : (b : List ℕ) → (no-image b ≡ 0 → ⊥) → No-image b
+unfolding image-number image-after all-number tally-number
+none b n = record {
+  events = λ e. (rw (ne-eqb (no-image b) 0 n), rw (ne-eqb (no-image b) 0 n, ne-eqb (no-image b) 0 n));
+  look = λ s. no-image-shown b s n;
+  look-all = λ out. tested-none b _ n;
+  look-ballot = λ k out. tested-none b _ n;
+}
+
 pub image-lists : Image-lists
-image-lists = record { holds = holds; numbers = same-number; leaves = same-image; stands = stands }
+image-lists = record { none = none; holds = holds; numbers = same-number; leaves = same-image; stands = stands }

@@ -6,11 +6,11 @@ use mathlib.Core.Logic.{⊎-elim}
 use mathlib.Core.List.{List, _++_, append-assoc}
 use native.Mathlib.Nat.{lt-of-lt-of-le, zero-add, add-zero, mul-suc, eq-or-lt-of-le, le-of-suc-le-suc, not-suc-le-zero}
 use native.Mathlib.Omega.{arith}
-use borrow.Author.Tests.{eqb-true, eqb-false, ne-eqb, lt-ltb, le-ltb, ltb-true, ltb-false}
+use borrow.Author.Tests.{eqb-true, eqb-false, ne-eqb, lt-ltb, ltb-true, ltb-false}
 use lib.Dec.{eqb, ltb}
 use lib.ListN.{length, take, drop, length-append}
 use lib.Seq.{sets, sets-eq, take-at, drop-at}
-use Rattle.basics.specs.Bytes.{byte, over}
+use Rattle.basics.specs.Bytes.{byte}
 use Rattle.basics.specs.Tests.{refuse, first-met}
 use Rattle.basics.proofs.Bools.{by-bool, not-false→true}
 use Rattle.basics.proofs.Refusals.{refused-not}

@@ -9,14 +9,14 @@ use Rattle.consensus.specs.Rules.{number, after}
 use Rattle.consensus.specs.Terms.{Beginning, Claims-fit}
 use Rattle.settlement.specs.declared.record.Settlement.{Settlement}
 use Rattle.settlement.specs.Events.{opened, played}
-use Rattle.settlement.specs.Look.{looked}
+use Rattle.settlement.specs.Look.{looked, turned-away}
 use Rattle.settlement.specs.Tally.{tallied}
 use Rattle.settlement.specs.Link.{rule-number, record-after}
 use Rattle.settlement.specs.Demands.{Demand3-of-records}
-use Rattle.image.specs.Image.{image-of, record-in, Record-fits}
+use Rattle.image.specs.Image.{image-of, record-in, no-image, Record-fits}
 use Rattle.on_image.specs.Events.{image-number, image-after}
-use Rattle.on_image.specs.Look.{looked-on}
-use Rattle.on_image.specs.Tally.{by-value}
+use Rattle.on_image.specs.Look.{looked-on, all-number}
+use Rattle.on_image.specs.Tally.{tally-number, by-value}
 
 -- OPEN left its image in the caller's bytes, which were then lent to each event of the list in turn: b stands there at the end
 abbrev pub Stands : Opening → History → List ℕ → Type 0
@@ -36,7 +36,15 @@ pub record Demand3-on-image (o : Opening) (h : History) : Type 0 where
   -- so two stations that LOOK says have decided show one claim and the same number of votes
   pub looks-agree : (b : List ℕ) → Stands o h b → (p q : ℕ) → looked-on b p .decided ≡ true → looked-on b q .decided ≡ true → looked-on b p ≡ looked-on b q
 
+-- bytes that are no image: every operation answers their number (`Numbers-told` in `image` says which), shows nothing and leaves them
+pub record No-image (b : List ℕ) : Type 0 where
+  pub events : (e : Event) → (image-number b e ≡ no-image b) × (image-after b e ≡ b)
+  pub look : (s : ℕ) → looked-on b s ≡ turned-away (no-image b)
+  pub look-all : (out : List ℕ) → all-number b out ≡ no-image b
+  pub look-ballot : (k : ℕ) (out : List ℕ) → tally-number b k out ≡ no-image b
+
 pub record Image-lists : Type 0 where
+  pub none : (b : List ℕ) → (no-image b ≡ 0 → ⊥) → No-image b
   pub holds : (o : Opening) → Openable o → (h : History) → Claims-fit h → Demand3-on-image o h
   -- on the image of any record whose numbers fit, made-up ones included: an event has the record's number, and leaves the image of the record after it
   pub numbers : (r : Settlement) → Record-fits r → (e : Event) → image-number (image-of r) e ≡ played r e .number
