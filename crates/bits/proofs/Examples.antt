@@ -1,6 +1,5 @@
 -- The numbers that the documents write out are those of the definitions: antt computes each. Assumes nothing.
-use mathlib.Core.Bool.{true}
-use mathlib.Core.Path.{_≡_, refl}
+use mathlib.Core.Path.{refl}
 use Rattle.basics.specs.Below.{count-below}
 use Rattle.bits.specs.Digits.{digits-in, binary-digits, bit-length, bit}
 use Rattle.bits.specs.Words.{with-bit, low-agree, word-with-bit, member, insert, size}

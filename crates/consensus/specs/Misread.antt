@@ -1,5 +1,5 @@
 -- Figure 2 with line 10 or line 11 read otherwise, run over a list to its end: what the paper's readers may get wrong, computed. Assumes nothing.
-use Prim.Native.Nat.{ℕ, suc}
+use Prim.Native.Nat.{ℕ}
 use mathlib.Core.Path.{_≡_}
 use mathlib.Core.Bool.{Bool, true, cond}
 use mathlib.Core.Option.{Option, none, some}

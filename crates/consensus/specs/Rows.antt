@@ -9,7 +9,7 @@ use mathlib.Core.List.{List, [], _∷_, _++_}
 use lib.Dec.{eqb}
 use Rattle.bits.specs.Examples.{every}
 use Rattle.consensus.specs.Events.{Event, claim, deliver, step, lose, answer, History, start, _▷_, Rule, rule-1, rule-2, Opening}
-use Rattle.consensus.specs.State.{Stage, idle, waiting, voting, awaiting, seeking, finish-voting, finish-awaiting, decided, Station, State}
+use Rattle.consensus.specs.State.{Stage, idle, voting, awaiting, seeking, finish-voting, finish-awaiting, decided, State}
 use Rattle.consensus.specs.Rules.{number, after}
 use Rattle.consensus.specs.Terms.{is-step, listed}
 use Rattle.consensus.specs.Demand2.{figure-after}

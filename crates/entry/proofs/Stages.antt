@@ -4,7 +4,7 @@ use mathlib.Core.Path.{_≡_, refl, sym, ap, _∙_}
 use borrow.Author.Tests.{eqb-true, eq-eqb}
 use Rattle.entry.specs.declared.entry.Stage.{Stage}
 use Rattle.entry.specs.declared.entry.Stage.the-variants.{Idle, Waiting, Voting, Awaiting, Seeking, FinishVoting, FinishAwaiting, Decided}
-use Rattle.entry.specs.Stages.{rank, at, Told-apart}
+use Rattle.entry.specs.Stages.{rank, Told-apart}
 
 stage-at : ℕ → Stage
 stage-at zero = Idle

@@ -4,7 +4,7 @@ use Prim.Native.Nat.{ℕ}
 use mathlib.Core.Path.{_≡_, refl}
 use mathlib.Core.Bool.{Bool, true, false, cond, true≢false}
 use mathlib.Core.List.{List, [], _∷_}
-use Rattle.consensus.specs.Events.{Event, claim, deliver, step, lose, answer}
+use Rattle.consensus.specs.Events.{claim, deliver, step, lose, answer}
 use Rattle.entry.specs.declared.entry.Stage.{Stage}
 use Rattle.entry.specs.declared.entry.Stage.the-variants.{Idle, Waiting, Voting, Awaiting, Seeking, FinishVoting, FinishAwaiting, Decided}
 use Rattle.entry.specs.declared.entry.Station.{Station}

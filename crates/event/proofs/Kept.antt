@@ -18,7 +18,7 @@ use Rattle.entry.specs.declared.entry.Station.{Station}
 use Rattle.entry.specs.declared.entry.Ballot.{Ballot}
 use Rattle.event.specs.declared.view.View.{View}
 use Rattle.entry.specs.Stages.{at, not-idle, is-decided}
-use Rattle.entry.specs.Entries.{no-station, ballots, by-station, voters, moved, casting, answering}
+use Rattle.entry.specs.Entries.{no-station, ballots, by-station, voters, moved, casting}
 use Rattle.event.specs.Places.{next-cursor}
 use Rattle.event.specs.Step.{at-once, last-round, seeking-ends, bit-voted, finish-voted, started, bit-taken, finish-taken, entry-after-seek, sought, stepped, voted}
 use Rattle.event.specs.Change.{number-on, own-after, ballot-after}
@@ -81,10 +81,6 @@ lose-kept v s e =
       answer-stays = λ p. refl;
     }
 
-answer-voters : (t : Ballot) (x a : Bool) → voters (answering x t) a ≡ voters t a
-answer-voters t x true = refl
-answer-voters t x false = refl
-
 -- an accepted ANSWER of an answered ballot has the bit that stands
 answer-same : (v : View) (b a : ℕ) → number-on v (answer b a) ≡ 0 → v .ballot .answered ≡ true → as-bit a ≡ v .ballot .answer
 unfolding first-met
@@ -104,8 +100,8 @@ answer-kept v b a e =
       decided = λ p. p;
       decision = λ p. refl;
       round = λ p. refl;
-      cast = λ c p. ap (λ (m : ℕ). not (eqb m 0)) (answer-voters (v .ballot) (as-bit a) c) ∙ p;
-      voter-stays = λ c i p. ap (member i) (answer-voters (v .ballot) (as-bit a) c) ∙ p;
+      cast = λ c p. p;
+      voter-stays = λ c i p. p;
       answered = λ p. refl;
       answer-stays = λ p. answer-same v b a e p;
     }

@@ -2,7 +2,6 @@
 -- that is true exactly where its sentence holds. Assumes nothing.
 use Prim.Native.Nat.{ℕ, _+_, _%_, _≤_, _<_}
 use mathlib.Core.Path.{_≡_, refl, sym, ap, _∙_, subst}
-use mathlib.Core.Logic.{_↔_}
 use mathlib.Core.Bool.{Bool, true, false, cond, _&&_, true≢false}
 use native.Mathlib.Nat.{mod-eq-of-lt}
 use native.Mathlib.Omega.{arith}
@@ -10,22 +9,20 @@ use lib.Dec.{eqb}
 use borrow.Author.Tests.{eqb-true, eqb-false, eq-eqb, ne-eqb}
 use Rattle.basics.proofs.Bools.{by-bool, cond-ind, no-clash, and-true}
 use Rattle.bits.specs.Digits.{bit}
-use Rattle.bits.specs.Log.{ceil-log2}
-use Rattle.bits.specs.Words.{claim-bits, word-with-bit, low-agree, member, insert}
+use Rattle.bits.specs.Words.{claim-bits, low-agree, member, insert}
 use Rattle.bits.proofs.Masks.{member-same, member-other}
 use Rattle.bits.proofs.Words.{word-same, word-other, agree-bits, bits-agree}
-use Rattle.consensus.specs.Events.{claim, deliver, step, lose, answer}
+use Rattle.consensus.specs.Events.{claim, step, answer}
 use Rattle.entry.specs.declared.entry.Stage.{Stage}
 use Rattle.entry.specs.declared.entry.Stage.the-variants.{Waiting, Voting, Awaiting, Seeking, FinishVoting, FinishAwaiting, Decided}
-use Rattle.entry.specs.declared.entry.Station.{Station}
 use Rattle.entry.specs.declared.entry.Ballot.{Ballot}
 use Rattle.entry.specs.Stages.{at}
-use Rattle.entry.specs.Entries.{by-station, spelled, moved, casting}
+use Rattle.entry.specs.Entries.{by-station, spelled, casting}
 use Rattle.event.specs.declared.view.View.{View}
 use Rattle.event.specs.Places.{next-cursor}
 use Rattle.event.specs.Step.{next-round, at-once, started, bit-taken, finish-taken, last-round, entry-after-seek, seeking-ends, sought, stepped, bit-voted, finish-voted, voted}
 use Rattle.event.specs.Change.{own-after, ballot-after}
-use Rattle.event.specs.Said.{Fits, Waiting-said, Puts-in, Voting-said, Awaiting-said, Seeking-said, Finish-voting-said, Finish-awaiting-said, Step-said, Said, All-said}
+use Rattle.event.specs.Said.{Fits, Waiting-said, Puts-in, Voting-said, Awaiting-said, Seeking-said, Finish-voting-said, Finish-awaiting-said, Step-said, All-said}
 use Rattle.event.proofs.Numbers.{Tells, tells-and, equal}
 
 -- a test that is false tells that its sentence does not hold

@@ -3,7 +3,7 @@
 use Prim.Native.Nat.{ℕ, _+_, _%_, _≤_, _<_}
 use mathlib.Core.Path.{_≡_}
 use mathlib.Core.Logic.{_↔_}
-use mathlib.Core.Bool.{Bool, true, false}
+use mathlib.Core.Bool.{true, false}
 use Rattle.bits.specs.Digits.{bit}
 use Rattle.bits.specs.Log.{ceil-log2}
 use Rattle.bits.specs.Words.{member}
@@ -12,7 +12,6 @@ use Rattle.entry.specs.declared.entry.Stage.the-variants.{Waiting, Voting, Awai
 use Rattle.entry.specs.declared.entry.Station.{Station}
 use Rattle.entry.specs.declared.entry.Ballot.{Ballot}
 use Rattle.event.specs.declared.view.View.{View}
-use Rattle.event.specs.Places.{next-cursor}
 use Rattle.event.specs.Change.{own-after, ballot-after}
 
 -- "the claim of j is held, and the low k+1 bits of d equal those of j (rule 1) or of its claim (rule 2)"

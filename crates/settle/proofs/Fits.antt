@@ -1,7 +1,7 @@
 -- A text that fits the buffer stands whole at its start, and every text fits 24,576 bytes. Assumes nothing.
 use Prim.Native.Nat.{ℕ, _≤_}
-use mathlib.Core.Path.{_≡_, sym, subst, ap}
-use mathlib.Core.Bool.{true, cond}
+use mathlib.Core.Path.{_≡_}
+use mathlib.Core.Bool.{true}
 use mathlib.Core.List.{List, _++_}
 use native.Mathlib.Nat.{le-add-right}
 use native.Mathlib.Omega.{arith}
