@@ -43,7 +43,7 @@ enum {
     DAGMUIZE_RULE = 41, /* a rule other than 1 and 2 */
     DAGMUIZE_RECORD = 42, /* made-up bytes: a record outside its ranges, or a STEP that takes answer 0 from the last ballot */
     DAGMUIZE_IMAGE_LENGTH = 80, /* an image has 1,283 bytes, no more and no fewer */
-    DAGMUIZE_IMAGE_VERSION = 81 /* the image's first byte is another version than 2 */
+    DAGMUIZE_IMAGE_VERSION = 81 /* the image's first byte is another version than 3 */
 };
 
 /* A settlement is an image: this many bytes that the caller keeps, on the stack, in a file or in a database. Its layout: README.md. */

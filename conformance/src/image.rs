@@ -7,14 +7,14 @@ use crate::record::{Ballot, Look, Record, Station, Tally, STAGES};
 use crate::text;
 
 pub const BYTES: usize = 1283;
-pub const VERSION: u8 = 2;
-/// Where the entries begin, and the bytes of one.
+pub const VERSION: u8 = 3;
+/// Where the entries begin, and the bytes of one: stations, who voted in each ballot, and each ballot's marks.
 pub const STATIONS: usize = 3;
 pub const STATION: usize = 20;
 pub const BALLOTS: usize = 643;
-pub const BALLOT: usize = 10;
-/// Where a ballot's marks are: answered, and after it the answer.
-pub const MARKS: usize = 8;
+pub const BALLOT_VOTERS: usize = 8;
+pub const MARKS: usize = 1155;
+pub const BALLOT_MARKS: usize = 2;
 /// The bytes of a look at a ballot.
 pub const TALLY: usize = 12;
 
@@ -26,7 +26,8 @@ pub const FAULTY: u8 = 42;
 pub fn encode(record: &Record) -> Vec<u8> {
     let mut bytes = vec![VERSION, record.n, record.rule];
     bytes.extend(record.stations.iter().flat_map(station_bytes));
-    bytes.extend(record.ballots.iter().flat_map(ballot_bytes));
+    bytes.extend(record.ballots.iter().flat_map(|ballot| ballot.cast).flat_map(u32::to_be_bytes));
+    bytes.extend(record.ballots.iter().flat_map(|ballot| [ballot.answered, ballot.answer]).map(u8::from));
     bytes
 }
 
@@ -39,14 +40,6 @@ fn station_bytes(station: &Station) -> Vec<u8> {
     bytes
 }
 
-/// The set of 0 and the set of 1, high byte first; answered, the answer.
-fn ballot_bytes(ballot: &Ballot) -> Vec<u8> {
-    let Ballot { cast, answered, answer } = *ballot;
-    let mut bytes: Vec<u8> = cast.iter().flat_map(|set| set.to_be_bytes()).collect();
-    bytes.extend([answered, answer].map(u8::from));
-    bytes
-}
-
 /// The record whose image this is, or the number of what is no image.
 pub fn decode(bytes: &[u8]) -> Result<Record, u8> {
     if bytes.len() != BYTES {
@@ -56,7 +49,8 @@ pub fn decode(bytes: &[u8]) -> Result<Record, u8> {
         return Err(OTHER_VERSION);
     }
     let stations: Option<Vec<Station>> = bytes[STATIONS..BALLOTS].chunks(STATION).map(read_station).collect();
-    let ballots: Option<Vec<Ballot>> = bytes[BALLOTS..].chunks(BALLOT).map(read_ballot).collect();
+    let voters = bytes[BALLOTS..MARKS].chunks(BALLOT_VOTERS);
+    let ballots: Option<Vec<Ballot>> = voters.zip(bytes[MARKS..].chunks(BALLOT_MARKS)).map(read_ballot).collect();
     Ok(Record {
         n: bytes[1],
         rule: bytes[2],
@@ -87,9 +81,10 @@ fn read_station(bytes: &[u8]) -> Option<Station> {
     })
 }
 
-fn read_ballot(bytes: &[u8]) -> Option<Ballot> {
-    let cast = [number(bytes, 0), number(bytes, 4)];
-    Some(Ballot { cast, answered: read_mark(bytes[MARKS])?, answer: read_mark(bytes[MARKS + 1])? })
+/// The set of 0 and the set of 1, high byte first; answered, the answer.
+fn read_ballot((voters, marks): (&[u8], &[u8])) -> Option<Ballot> {
+    let cast = [number(voters, 0), number(voters, 4)];
+    Some(Ballot { cast, answered: read_mark(marks[0])?, answer: read_mark(marks[1])? })
 }
 
 /// What every operation tests first: the image, then 01's record test.

@@ -1,7 +1,7 @@
 //! The images and logs that are compared: random, made up, changed in one place, and reached from an opening.
 
 use crate::generate::{self, accepted, opening, random_list, Rng};
-use crate::image::{self, BALLOT, BALLOTS, BYTES, MARKS, STATION, STATIONS, TALLY, VERSION};
+use crate::image::{self, BALLOTS, BALLOT_MARKS, BALLOT_VOTERS, BYTES, MARKS, STATION, STATIONS, TALLY, VERSION};
 use crate::image_judge::ImageJudge;
 use crate::image_lists::List;
 use crate::image_rows;
@@ -97,7 +97,7 @@ fn openings(judge: &mut ImageJudge, rng: &mut Rng) -> Checked {
     for n in 0..=255 {
         for rule in [0, 1, 2, 3, 4, 255] {
             judge.open(&rng.bytes(BYTES), n, rule)?;
-            let size = rng.pick(&[0, 1, 2, 3, 643, 899, 1282, 1284, 2000]);
+            let size = rng.pick(&[0, 1, 2, 3, 643, 899, 1155, 1282, 1284, 2000]);
             judge.open(&rng.bytes(size), n, rule)?;
         }
     }
@@ -114,7 +114,8 @@ fn openings(judge: &mut ImageJudge, rng: &mut Rng) -> Checked {
 fn other_lengths(judge: &mut ImageJudge, rng: &mut Rng) -> Checked {
     for _ in 0..900 {
         let any = rng.below(2000);
-        let size = rng.pick(&[0, 1, 2, 3, 4, 23, 643, 653, 898, 899, 900, 1281, 1282, 1284, 1285, 2566, any]);
+        let size =
+            rng.pick(&[0, 1, 2, 3, 23, 643, 651, 898, 899, 900, 1154, 1155, 1156, 1281, 1282, 1284, 1285, 2566, any]);
         let mut image = image::encode(&made_up::record(rng));
         image.resize(size, rng.byte());
         through(judge, rng, &image)?;
@@ -133,7 +134,7 @@ fn any_bytes(judge: &mut ImageJudge, rng: &mut Rng) -> Checked {
         image[STATIONS..BALLOTS]
             .chunks_mut(STATION)
             .for_each(|entry| (entry[0], entry[1]) = (entry[0] % 8, entry[1] % 2));
-        image[BALLOTS..].chunks_mut(BALLOT).for_each(|entry| entry[MARKS..].iter_mut().for_each(|mark| *mark %= 2));
+        image[MARKS..].iter_mut().for_each(|mark| *mark %= 2);
         through(judge, rng, &image)?;
         (image[1], image[2]) = (rng.pick(&[1, 1, 2, 3, 8]), rng.pick(&[1, 2]));
         through(judge, rng, &image)?;
@@ -267,9 +268,13 @@ fn one_place(judge: &mut ImageJudge, rng: &mut Rng, image: &[u8], place: usize) 
     looked_at(judge, rng, &changed, image[1])
 }
 
-/// The ballot whose entry has this place.
+/// The ballot whose voters or marks have this place.
 fn ballot_at(place: usize) -> u8 {
-    (place.saturating_sub(BALLOTS) / BALLOT) as u8
+    let b = match place < MARKS {
+        true => place.saturating_sub(BALLOTS) / BALLOT_VOTERS,
+        false => (place - MARKS) / BALLOT_MARKS,
+    };
+    b as u8
 }
 
 /// Five events, of the station or the ballot that the place belongs to where there is one.
@@ -335,7 +340,7 @@ fn logs(judge: &mut ImageJudge, rng: &mut Rng) -> Checked {
         }
         one_event_more(judge, rng, n, rule, &events)?;
         bad_openings(judge, rng, &log)?;
-        judge.play(&log, limit, rng.pick(&[0, 1, 643, 899, 1282, 1284, 2000]))?;
+        judge.play(&log, limit, rng.pick(&[0, 1, 643, 899, 1155, 1282, 1284, 2000]))?;
     }
     Ok(())
 }

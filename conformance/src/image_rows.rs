@@ -1,5 +1,6 @@
 //! Rows with literal bytes, written from the image's table, document 01 and requests A.1 and A.2 of document 02 by hand, so that no
-//! error of `image.rs` goes through because the subject makes it too. Places: station s begins at 3 + 20 s, ballot b at 643 + 10 b.
+//! error of `image.rs` goes through because the subject makes it too. Places: station s begins at 3 + 20 s, who voted in ballot b at
+//! 643 + 8 b, its marks at 1155 + 2 b.
 
 use crate::image_judge::ImageJudge;
 use crate::judge::{hex, Checked};
@@ -132,20 +133,20 @@ fn sound(judge: &mut ImageJudge, bytes: &[Byte]) -> Checked {
 /// Accepted, the head and zeros; refused, the blank settlement: no stations, rule 1.
 fn openings(judge: &mut ImageJudge) -> Checked {
     for (n, rule, head) in [
-        (2, 1, [2, 2, 1]),
-        (32, 2, [2, 32, 2]),
-        (1, 2, [2, 1, 2]),
-        (0, 1, [2, 0, 1]),
-        (33, 2, [2, 0, 1]),
-        (255, 3, [2, 0, 1]),
-        (32, 3, [2, 0, 1]),
-        (1, 0, [2, 0, 1]),
+        (2, 1, [3, 2, 1]),
+        (32, 2, [3, 32, 2]),
+        (1, 2, [3, 1, 2]),
+        (0, 1, [3, 0, 1]),
+        (33, 2, [3, 0, 1]),
+        (255, 3, [3, 0, 1]),
+        (32, 3, [3, 0, 1]),
+        (1, 0, [3, 0, 1]),
     ] {
         let after = judge.open(&[0xee; 1283], n, rule)?;
         let [version, n, rule] = head;
         agree_bytes("OPEN", &head, &image(&[(0, version), (1, n), (2, rule)]), &after)?;
     }
-    for size in [0, 1, 899, 1282, 1284] {
+    for size in [0, 1, 899, 1155, 1282, 1284] {
         let after = judge.open(&vec![0xee; size], 2, 1)?;
         agree_bytes("OPEN of another length", &[], &vec![0xee; size], &after)?;
     }
@@ -154,7 +155,7 @@ fn openings(judge: &mut ImageJudge) -> Checked {
 
 /// Two stations by station. Station 0 is at 3: stage 3, lost 4, cursor 5, round 6, held 7, claim 11, word 15, decision 19.
 fn by_station(judge: &mut ImageJudge) -> Checked {
-    let mut hand = hand(judge, &[(0, 2), (1, 2), (2, 1)]);
+    let mut hand = hand(judge, &[(0, 3), (1, 2), (2, 1)]);
     hand.look(0, 0)?;
     hand.event(STEP, 6, &[])?;
     hand.event(DELIVER, 4, &[])?;
@@ -170,7 +171,7 @@ fn by_station(judge: &mut ImageJudge) -> Checked {
     hand.step(0, &[(3, 2)])?;
     hand.step(1, &[(23, 2), (25, 1)])?;
     hand.look(1, 0)?;
-    // station 0 casts 0, station 1 casts 1; ballot 0 is at 643, the lowest byte of its sets at 646 and 650
+    // station 0 casts 0, station 1 casts 1; the lowest byte of ballot 0's sets is at 646 and 650
     hand.step(0, &[(3, 3), (646, 1)])?;
     hand.event(Event::Answer { b: 0, a: 1 }, 12, &[])?;
     hand.step(1, &[(23, 3), (650, 2)])?;
@@ -184,7 +185,7 @@ fn answered(mut hand: Hand) -> Checked {
     hand.event(STEP, 8, &[])?;
     hand.event(Event::Answer { b: 1, a: 1 }, 9, &[])?;
     hand.event(Event::Answer { b: 0, a: 2 }, 10, &[])?;
-    hand.event(Event::Answer { b: 0, a: 1 }, 0, &[(651, 1), (652, 1)])?;
+    hand.event(Event::Answer { b: 0, a: 1 }, 0, &[(1155, 1), (1156, 1)])?;
     hand.event(Event::Answer { b: 0, a: 1 }, 0, &[])?;
     hand.event(ANSWER, 11, &[])?;
     hand.step(0, &[(3, 4), (18, 1)])?;
@@ -204,28 +205,28 @@ fn answered(mut hand: Hand) -> Checked {
     hand.look(2, 0x0100_0000_0000_0000)
 }
 
-/// One station by claim, its claim 2: ballots 0 and 1, then 2 and 3, at 643, 653, 663 and 673.
+/// One station by claim, its claim 2: ballots 0 and 1, then 2 and 3, at 643, 651, 659 and 667, marked at 1155, 1157, 1159 and 1161.
 fn by_claim(judge: &mut ImageJudge) -> Checked {
-    let mut hand = hand(judge, &[(0, 2), (1, 1), (2, 2)]);
+    let mut hand = hand(judge, &[(0, 3), (1, 1), (2, 2)]);
     hand.event(Event::Claim { s: 0, v: 2 }, 0, &[(3, 1), (14, 2)])?;
     hand.event(DELIVER, 0, &[(10, 1)])?;
     hand.step(0, &[(3, 2)])?;
     hand.step(0, &[(3, 3), (646, 1)])?;
-    hand.event(ANSWER, 0, &[(651, 1)])?;
+    hand.event(ANSWER, 0, &[(1155, 1)])?;
     hand.step(0, &[(3, 4)])?;
     hand.step(0, &[(3, 5)])?;
     hand.look(0, 0x0000_0100_0000_0000)?;
     // the word is 0 and the claim 2: it casts 0
-    hand.step(0, &[(3, 6), (656, 1)])?;
+    hand.step(0, &[(3, 6), (654, 1)])?;
     hand.look(0, 0x0000_0200_0000_0000)?;
-    hand.event(Event::Answer { b: 1, a: 0 }, 0, &[(661, 1)])?;
+    hand.event(Event::Answer { b: 1, a: 0 }, 0, &[(1157, 1)])?;
     hand.step(0, &[(3, 2), (6, 1)])?;
-    hand.step(0, &[(3, 3), (670, 1)])?;
-    hand.event(Event::Answer { b: 2, a: 1 }, 0, &[(671, 1), (672, 1)])?;
+    hand.step(0, &[(3, 3), (666, 1)])?;
+    hand.event(Event::Answer { b: 2, a: 1 }, 0, &[(1159, 1), (1160, 1)])?;
     hand.step(0, &[(3, 4), (18, 2)])?;
     hand.step(0, &[(3, 5)])?;
-    hand.step(0, &[(3, 6), (680, 1)])?;
-    hand.event(Event::Answer { b: 3, a: 1 }, 0, &[(681, 1), (682, 1)])?;
+    hand.step(0, &[(3, 6), (674, 1)])?;
+    hand.event(Event::Answer { b: 3, a: 1 }, 0, &[(1161, 1), (1162, 1)])?;
     hand.step(0, &[(3, 7), (22, 2)])?;
     hand.ballot(0, &[0, 0, 0, 1, 0, 0, 0, 0, 1, 0, 1, 0])?;
     hand.ballot(1, &[0, 0, 0, 1, 0, 0, 0, 0, 1, 0, 1, 0])?;
@@ -234,9 +235,9 @@ fn by_claim(judge: &mut ImageJudge) -> Checked {
     hand.look(0, 0x0001_0400_0000_0002)
 }
 
-/// Station 31 is at 623, ballot 63 at 1273. Bit 31 of a set is the highest of its first byte.
+/// Station 31 is at 623, ballot 63 at 1147, its marks at 1281. Bit 31 of a set is the highest of its first byte.
 fn high_numbers(judge: &mut ImageJudge) -> Checked {
-    let mut hand = hand(judge, &[(0, 2), (1, 32), (2, 2)]);
+    let mut hand = hand(judge, &[(0, 3), (1, 32), (2, 2)]);
     let all = [(623, 1), (631, 255), (632, 255), (633, 255), (634, 255)];
     hand.event(Event::Claim { s: 31, v: u32::MAX }, 0, &all)?;
     hand.event(Event::Deliver { t: 31, s: 31 }, 0, &[(627, 0x80)])?;
@@ -247,7 +248,7 @@ fn high_numbers(judge: &mut ImageJudge) -> Checked {
     [(623, 5), (626, 31), (635, 255), (636, 255), (637, 255), (638, 255)]
         .iter()
         .for_each(|(place, byte)| hand.image[*place] = *byte);
-    hand.step(31, &[(623, 6), (1277, 0x80)])?;
+    hand.step(31, &[(623, 6), (1151, 0x80)])?;
     hand.event(Event::Answer { b: 63, a: 0 }, 12, &[])?;
     hand.event(Event::Answer { b: 64, a: 0 }, 9, &[])?;
     hand.event(Event::Answer { b: 63, a: 1 }, 0, &[(1281, 1), (1282, 1)])?;
@@ -261,12 +262,11 @@ fn high_numbers(judge: &mut ImageJudge) -> Checked {
 
 /// Another length is seen before another version, and both before any other byte.
 fn no_images(judge: &mut ImageJudge) -> Checked {
-    for size in [0, 1, 3, 899, 1282, 1284, 2566] {
-        refused(judge, &vec![2; size], 80)?;
-        refused(judge, &vec![1; size], 80)?;
-        refused(judge, &vec![0; size], 80)?;
+    for size in [0, 1, 3, 899, 1154, 1155, 1156, 1282, 1284, 2566] {
+        [3, 2, 1, 0].into_iter().try_for_each(|byte| refused(judge, &vec![byte; size], 80))?;
     }
-    for version in [0, 1, 3, 42, 255] {
+    // version 2 had 1,283 bytes too
+    for version in [2, 0, 1, 4, 42, 255] {
         refused(judge, &image(&[(0, version), (1, 2), (2, 1)]), 81)?;
         refused(judge, &image(&[(0, version), (1, 33), (2, 3), (3, 8), (1282, 2)]), 81)?;
     }
@@ -274,8 +274,8 @@ fn no_images(judge: &mut ImageJudge) -> Checked {
 }
 
 /// The head of two stations by station, and of two by claim.
-const ONE: [Byte; 3] = [(0, 2), (1, 2), (2, 1)];
-const TWO: [Byte; 3] = [(0, 2), (1, 2), (2, 2)];
+const ONE: [Byte; 3] = [(0, 3), (1, 2), (2, 1)];
+const TWO: [Byte; 3] = [(0, 3), (1, 2), (2, 2)];
 
 fn with(head: [Byte; 3], bytes: &[Byte]) -> Vec<Byte> {
     [&head[..], bytes].concat()
@@ -283,10 +283,11 @@ fn with(head: [Byte; 3], bytes: &[Byte]) -> Vec<Byte> {
 
 /// Bytes that no record has, wherever they are; then 01's record test on both sides of each clause.
 fn tests(judge: &mut ImageJudge) -> Checked {
-    for faulty in [(3, 8), (3, 255), (4, 2), (4, 255), (623, 8), (624, 2), (651, 2), (651, 255), (652, 2), (661, 2)] {
+    for faulty in [(3, 8), (3, 255), (4, 2), (4, 255), (623, 8), (624, 2)] {
         refused(judge, &image(&with(ONE, &[faulty])), 42)?;
     }
-    for faulty in [(1281, 2), (1281, 255), (1282, 2), (5, 2), (25, 2), (25, 255), (3, 5), (3, 6), (2, 0), (2, 3)] {
+    sets_and_marks(judge)?;
+    for faulty in [(5, 2), (25, 2), (25, 255), (3, 5), (3, 6), (2, 0), (2, 3)] {
         refused(judge, &image(&with(ONE, &[faulty])), 42)?;
     }
     for stage in [2, 3, 4] {
@@ -299,33 +300,43 @@ fn tests(judge: &mut ImageJudge) -> Checked {
     }
     refused(judge, &image(&with(ONE, &[(1, 33)])), 42)?;
     refused(judge, &image(&with(ONE, &[(1, 255)])), 42)?;
-    for free in [(5, 1), (25, 1), (45, 255), (43, 5), (6, 255), (623, 6), (1282, 1), (1, 32), (1, 1)] {
+    for free in [(5, 1), (25, 1), (45, 255), (43, 5), (6, 255), (623, 6), (1, 32), (1, 1)] {
         sound(judge, &with(ONE, &[free]))?;
-    }
-    // a set is any four bytes
-    for place in (643..651).chain(1273..1281) {
-        [2, 255].into_iter().try_for_each(|byte| sound(judge, &with(ONE, &[(place, byte)])))?;
     }
     [[(3, 1), (6, 255)], [(3, 7), (6, 255)], [(23, 7), (26, 9)]]
         .iter()
         .try_for_each(|free| sound(judge, &with(ONE, free)))
 }
 
-/// Awaiting ballot 63, at 1273, which is answered 0; with one round less it goes on.
-fn last_ballot(judge: &mut ImageJudge) -> Checked {
-    hand(judge, &with(TWO, &[(3, 6), (6, 31), (1281, 1)])).event(STEP, 42, &[])?;
-    hand(judge, &with(TWO, &[(3, 6), (6, 30), (1261, 1)])).event(STEP, 0, &[(3, 2), (6, 31)])?;
-    hand(judge, &with(TWO, &[(3, 6), (6, 31), (1281, 1), (1282, 1)])).event(STEP, 0, &[(3, 7)])
+/// A set is any four bytes, the last of them at 1154; the marks, from 1155 to 1282, are 0 or 1.
+fn sets_and_marks(judge: &mut ImageJudge) -> Checked {
+    for place in 643..1155 {
+        [2, 255].into_iter().try_for_each(|byte| sound(judge, &with(ONE, &[(place, byte)])))?;
+    }
+    for place in 1155..1283 {
+        sound(judge, &with(ONE, &[(place, 1)]))?;
+        [2, 255].into_iter().try_for_each(|byte| refused(judge, &image(&with(ONE, &[(place, byte)])), 42))?;
+    }
+    Ok(())
 }
 
-/// Made-up ballots: the set of 0 at 643, the set of 1 at 647, answered at 651, the answer at 652. An answer is accepted again whether it
-/// was cast or not, and the other bit is 11 whether it was cast or not. Where none stands, the byte at 652 says nothing.
+/// Awaiting ballot 63, marked at 1281, which is answered 0; with one round less it goes on. The sets of ballot 63 are at 1147 and 1151.
+fn last_ballot(judge: &mut ImageJudge) -> Checked {
+    hand(judge, &with(TWO, &[(3, 6), (6, 31), (1281, 1)])).event(STEP, 42, &[])?;
+    hand(judge, &with(TWO, &[(3, 6), (6, 30), (1277, 1)])).event(STEP, 0, &[(3, 2), (6, 31)])?;
+    hand(judge, &with(TWO, &[(3, 6), (6, 31), (1281, 1), (1282, 1)])).event(STEP, 0, &[(3, 7)])?;
+    let bytes = with(TWO, &[(1147, 1), (1154, 3), (1281, 1), (1282, 1)]);
+    hand(judge, &bytes).ballot(63, &[1, 0, 0, 0, 0, 0, 0, 3, 1, 2, 1, 1])
+}
+
+/// Made-up ballots: the set of 0 at 643, the set of 1 at 647, answered at 1155, the answer at 1156. An answer is accepted again whether
+/// it was cast or not, and the other bit is 11 whether it was cast or not. Where none stands, the byte at 1156 says nothing.
 fn repeats(judge: &mut ImageJudge) -> Checked {
     let one = Event::Answer { b: 0, a: 1 };
     for (zero, other) in [(0, 0), (1, 0), (0, 1), (2, 3)] {
         let cast = [(646, zero), (650, other)];
         for (answer, same, other) in [(0, ANSWER, one), (1, one, ANSWER)] {
-            let mut hand = hand(judge, &with(ONE, &[&cast[..], &[(651, 1), (652, answer)]].concat()));
+            let mut hand = hand(judge, &with(ONE, &[&cast[..], &[(1155, 1), (1156, answer)]].concat()));
             hand.event(same, 0, &[])?;
             hand.event(other, 11, &[])?;
             hand.event(Event::Answer { b: 0, a: 2 }, 10, &[])?;
@@ -333,17 +344,17 @@ fn repeats(judge: &mut ImageJudge) -> Checked {
     }
     for (cast, event) in [((646, 0), ANSWER), ((646, 0), one), ((646, 1), one), ((650, 1), ANSWER)] {
         hand(judge, &with(ONE, &[cast])).event(event, 12, &[])?;
-        hand(judge, &with(ONE, &[cast, (652, 1)])).event(event, 12, &[])?;
+        hand(judge, &with(ONE, &[cast, (1156, 1)])).event(event, 12, &[])?;
     }
-    hand(judge, &with(ONE, &[(646, 1), (652, 1)])).event(ANSWER, 0, &[(651, 1), (652, 0)])?;
+    hand(judge, &with(ONE, &[(646, 1), (1156, 1)])).event(ANSWER, 0, &[(1155, 1), (1156, 0)])?;
     no_ballots(judge)
 }
 
-/// The entry of ballot 1, at 653, is answered 1: no ballot of two stations by station, nor where there are no stations.
+/// Ballot 1, marked at 1157, is answered 1: no ballot of two stations by station, nor where there are no stations.
 fn no_ballots(judge: &mut ImageJudge) -> Checked {
     let next = Event::Answer { b: 1, a: 1 };
-    for (head, number) in [(ONE, 9), ([(0, 2), (1, 0), (2, 2)], 9), (TWO, 0), ([(0, 2), (1, 33), (2, 2)], 42)] {
-        hand(judge, &with(head, &[(661, 1), (662, 1)])).event(next, number, &[])?;
+    for (head, number) in [(ONE, 9), ([(0, 3), (1, 0), (2, 2)], 9), (TWO, 0), ([(0, 3), (1, 33), (2, 2)], 42)] {
+        hand(judge, &with(head, &[(1157, 1), (1158, 1)])).event(next, number, &[])?;
     }
     Ok(())
 }
@@ -351,7 +362,7 @@ fn no_ballots(judge: &mut ImageJudge) -> Checked {
 /// Votes by stage; the claim of a station that has not decided is 0. Then all stations at once.
 fn looks(judge: &mut ImageJudge) -> Checked {
     for (stage, votes) in [(0, 0), (1, 0), (2, 2), (3, 3), (4, 3), (7, 3)] {
-        let bytes = [(0, 2), (1, 8), (2, 1), (3, stage), (6, 2), (22, 9)];
+        let bytes = [(0, 3), (1, 8), (2, 1), (3, stage), (6, 2), (22, 9)];
         let decided = if stage == 7 { 0x0001_0000_0000_0009 } else { 0 };
         look(judge, &image(&bytes), 0, decided | votes << 40)?;
     }
@@ -365,29 +376,29 @@ fn looks(judge: &mut ImageJudge) -> Checked {
     agree("LOOK at all", &both, Ok(due), crate::image::look_all(&both, 16))?;
     agree("LOOK at all", &both, Err(30), crate::image::look_all(&both, 15))?;
     [0, 1, 8, 15, 16, 17, 256].into_iter().try_for_each(|room| judge.look_all(&both, room))?;
-    judge.look_all(&image(&[(0, 2), (1, 0), (2, 2)]), 0)
+    judge.look_all(&image(&[(0, 3), (1, 0), (2, 2)]), 0)
 }
 
-/// The sets of ballot 0 are at 643 and 647, answered at 651, the answer at 652: they are shown as they stand, but for an answer's byte
+/// The sets of ballot 0 are at 643 and 647, answered at 1155, the answer at 1156: they are shown as they stand, but for an answer's byte
 /// where there is no answer. Bits from n on are in the sets too, and such a bit counts as cast.
 fn ballots(judge: &mut ImageJudge) -> Checked {
     let any = [(643, 0x80), (644, 1), (645, 0xff), (646, 3), (647, 0xff), (648, 0xff), (649, 0xff), (650, 0xff)];
     let sets = [0x80, 1, 0xff, 3, 0xff, 0xff, 0xff, 0xff, 12, 32];
     for (answered, answer, shown) in [(0, 0, [0, 0]), (0, 1, [0, 0]), (1, 0, [1, 0]), (1, 1, [1, 1])] {
-        let bytes = [&any[..], &[(651, answered), (652, answer)]].concat();
+        let bytes = [&any[..], &[(1155, answered), (1156, answer)]].concat();
         hand(judge, &with(ONE, &bytes)).ballot(0, &[&sets[..], &shown].concat())?;
     }
     for (place, a, other) in [(643, 0, 1), (646, 0, 1), (647, 1, 0), (650, 1, 0)] {
         let mut hand = hand(judge, &with(ONE, &[(place, 0x40)]));
         hand.event(Event::Answer { b: 0, a: other }, 12, &[])?;
-        hand.event(Event::Answer { b: 0, a }, 0, &[(651, 1), (652, a)])?;
+        hand.event(Event::Answer { b: 0, a }, 0, &[(1155, 1), (1156, a)])?;
     }
-    // no ballot, though its entry has votes: ballot 5 of 32 stations by station is at 693, ballot 1 of two at 653
-    hand(judge, &[(0, 2), (1, 32), (2, 1), (696, 1)]).no_ballot(5, 9)?;
-    hand(judge, &[(0, 2), (1, 32), (2, 1), (686, 1)]).ballot(4, &[0, 0, 0, 1, 0, 0, 0, 0, 1, 0, 0, 0])?;
-    hand(judge, &with(ONE, &[(656, 1)])).no_ballot(1, 9)?;
-    hand(judge, &[(0, 2), (1, 1), (2, 1), (646, 1)]).no_ballot(0, 9)?;
-    hand(judge, &[(0, 2), (1, 0), (2, 2), (646, 1)]).no_ballot(0, 9)?;
+    // no ballot, though its entry has votes: ballot 5 of 32 stations by station is at 683, ballot 1 of two at 651
+    hand(judge, &[(0, 3), (1, 32), (2, 1), (686, 1)]).no_ballot(5, 9)?;
+    hand(judge, &[(0, 3), (1, 32), (2, 1), (678, 1)]).ballot(4, &[0, 0, 0, 1, 0, 0, 0, 0, 1, 0, 0, 0])?;
+    hand(judge, &with(ONE, &[(654, 1)])).no_ballot(1, 9)?;
+    hand(judge, &[(0, 3), (1, 1), (2, 1), (646, 1)]).no_ballot(0, 9)?;
+    hand(judge, &[(0, 3), (1, 0), (2, 2), (646, 1)]).no_ballot(0, 9)?;
     votes(judge)
 }
 
@@ -412,7 +423,7 @@ fn texts(judge: &mut ImageJudge) -> Checked {
     let due = "stations 2 rule 2 ballots 64 events 18446744073709551615 taken 0 status 255\n\
                0 awaiting - votes 8 lost\n1 decided 4278190081 votes 64 live\n";
     agree("a text", &bytes, due, &text)?;
-    let none = image(&[(0, 2), (1, 0), (2, 2)]);
+    let none = image(&[(0, 3), (1, 0), (2, 2)]);
     let text = judge.report(&none, Counts { events: 1, taken: 2, status: 3 })?;
     agree("a text", &none, "stations 0 rule 2 ballots 0 events 1 taken 2 status 3\n", &text)
 }
@@ -421,7 +432,7 @@ fn texts(judge: &mut ImageJudge) -> Checked {
 fn answered_twice(judge: &mut ImageJudge) -> Checked {
     let before =
         [1, 0, 2, 2, 2, 0x10, 0, 5, 0, 0, 0, 0, 4, 0x11, 0, 2, 0, 0, 0x12, 0, 1, 0, 0x12, 0, 1, 0, 0x14, 0, 2, 0, 0];
-    let due = image(&with(TWO, &[(3, 3), (10, 1), (14, 4), (646, 1), (651, 1)]));
+    let due = image(&with(TWO, &[(3, 3), (10, 1), (14, 4), (646, 1), (1155, 1)]));
     for (bit, limit, status) in [(0, 9, 0), (0, 6, 0), (0, 5, 26), (1, 9, 11), (1, 6, 11), (1, 5, 26), (2, 6, 10)] {
         let log = [&before[..], &[0x14, 0, 2, 0, bit]].concat();
         let (told, after) = judge.play(&log, limit, 1283)?;
@@ -442,13 +453,13 @@ fn logs(judge: &mut ImageJudge) -> Checked {
         (&log[..17], 2, 0, &lost),
         (&log, 1, 26, &claimed),
         (&log[..5], 0, 0, &ONE.to_vec()),
-        (&log[..4], 0, 23, &vec![(0, 2), (2, 1)]),
-        (&log[5..], 9, 24, &vec![(0, 2), (2, 1)]),
-        (&[], 9, 20, &vec![(0, 2), (2, 1)]),
+        (&log[..4], 0, 23, &vec![(0, 3), (2, 1)]),
+        (&log[5..], 9, 24, &vec![(0, 3), (2, 1)]),
+        (&[], 9, 20, &vec![(0, 3), (2, 1)]),
     ] {
         let (told, after) = judge.play(log, limit, 1283)?;
         agree("RUN", log, status, told)?;
         agree_bytes("RUN's image", log, &image(bytes), &after)?;
     }
-    [0, 899, 1282, 1284].into_iter().try_for_each(|size| judge.play(&log, 9, size).map(drop))
+    [0, 899, 1155, 1282, 1284].into_iter().try_for_each(|size| judge.play(&log, 9, size).map(drop))
 }

@@ -120,7 +120,7 @@ fn read(image: &[u8]) -> Result<Settlement, u8> {
     if image.len() != BYTES {
         return Err(80);
     }
-    if image[0] != 2 {
+    if image[0] != 3 {
         return Err(81);
     }
     let (n, rule) = (image[1], image[2]);
@@ -129,9 +129,11 @@ fn read(image: &[u8]) -> Result<Settlement, u8> {
     for (station, bytes) in settlement.stations.iter_mut().zip(image[3..643].chunks(20)) {
         *station = read_station(bytes)?;
     }
-    for (ballot, bytes) in settlement.ballots.iter_mut().zip(image[643..].chunks(10)) {
-        let cast = [number(bytes, 0), number(bytes, 4)];
-        *ballot = Ballot { cast, answered: mark(bytes[8])?, answer: mark(bytes[9])? };
+    for (ballot, bytes) in settlement.ballots.iter_mut().zip(image[643..1155].chunks(8)) {
+        ballot.cast = [number(bytes, 0), number(bytes, 4)];
+    }
+    for (ballot, bytes) in settlement.ballots.iter_mut().zip(image[1155..].chunks(2)) {
+        (ballot.answered, ballot.answer) = (mark(bytes[0])?, mark(bytes[1])?);
     }
     Ok(settlement)
 }
@@ -150,7 +152,7 @@ fn read_station(bytes: &[u8]) -> Result<Station, u8> {
 }
 
 fn write(settlement: &Settlement, image: &mut [u8]) {
-    image[..3].copy_from_slice(&[2, settlement.n, settlement.rule]);
+    image[..3].copy_from_slice(&[3, settlement.n, settlement.rule]);
     for (station, bytes) in settlement.stations.iter().zip(image[3..643].chunks_mut(20)) {
         bytes[..4].copy_from_slice(&[station.stage as u8, station.lost as u8, station.cursor, station.round]);
         bytes[4..8].copy_from_slice(&station.held.to_be_bytes());
@@ -158,10 +160,12 @@ fn write(settlement: &Settlement, image: &mut [u8]) {
         bytes[12..16].copy_from_slice(&station.word.to_be_bytes());
         bytes[16..].copy_from_slice(&station.decision.to_be_bytes());
     }
-    for (ballot, bytes) in settlement.ballots.iter().zip(image[643..].chunks_mut(10)) {
+    for (ballot, bytes) in settlement.ballots.iter().zip(image[643..1155].chunks_mut(8)) {
         bytes[..4].copy_from_slice(&ballot.cast[0].to_be_bytes());
-        bytes[4..8].copy_from_slice(&ballot.cast[1].to_be_bytes());
-        bytes[8..].copy_from_slice(&[ballot.answered as u8, ballot.answer as u8]);
+        bytes[4..].copy_from_slice(&ballot.cast[1].to_be_bytes());
+    }
+    for (ballot, bytes) in settlement.ballots.iter().zip(image[1155..].chunks_mut(2)) {
+        bytes.copy_from_slice(&[ballot.answered as u8, ballot.answer as u8]);
     }
 }
 

@@ -180,7 +180,7 @@ mod tests {
         assert_eq!(settlement, before);
     }
 
-    /// Ballot 0's entry begins at 643: who cast 0 in four bytes, who cast 1 in four, answered, the answer.
+    /// Ballot 0: who cast 0 at 643, who cast 1 at 647, answered at 1155, the answer at 1156.
     #[test]
     fn a_made_up_answer_that_nobody_cast_is_an_answer() {
         let mut image = Settlement::open(2, Rule::ByStation).expect("2 and rule 1 are fine").to_bytes();
@@ -191,10 +191,11 @@ mod tests {
             ([both, nobody], [1, 1], [11, 0]),
             ([both, both], [1, 1], [11, 0]),
         ] {
-            let entry = [&cast.concat()[..], &marks].concat();
-            image[643..653].copy_from_slice(&entry);
+            image[643..651].copy_from_slice(&cast.concat());
+            image[1155..1157].copy_from_slice(&marks);
+            let before = image;
             let numbers = [0, 1].map(|a| bytes::answer(&mut image, 0, a));
-            assert_eq!((numbers, &image[643..653]), (due, &entry[..]));
+            assert_eq!((numbers, image), (due, before));
         }
     }
 
@@ -235,9 +236,9 @@ mod tests {
         assert_eq!([look(&image, 0, 11), look(&image, 0, 0)], [(30 << 16, [7; 14]); 2]);
         assert_eq!([look(&image, 1, 14), look(&image, 1, 0)], [(9 << 16, [7; 14]); 2]);
         assert_eq!(look(&image[..899], 1, 0), (80 << 16, [7; 14]));
-        image[651] = 2;
+        image[1155] = 2;
         assert_eq!(look(&image, 1, 0), (42 << 16, [7; 14]));
-        image[0] = 1;
+        image[0] = 2;
         assert_eq!(look(&image, 1, 0), (81 << 16, [7; 14]));
     }
 
@@ -254,9 +255,10 @@ mod tests {
         assert_eq!(number(Settlement::from_bytes(&image[1..])), 80);
         // 899 bytes were an image of version 1
         assert_eq!([number(Settlement::from_bytes(&[])), number(Settlement::from_bytes(&image[..899]))], [80; 2]);
-        assert_eq!([with(0, 1), with(0, 3)], [81; 2]);
-        // 33 stations, rule 3, a stage that there is not, a cursor past the stations, a mark that is neither 0 nor 1
-        assert_eq!([with(1, 33), with(2, 3), with(3, 8), with(5, 1), with(1282, 2)], [42; 5]);
+        // version 2 had as many bytes
+        assert_eq!([with(0, 1), with(0, 2), with(0, 4)], [81; 3]);
+        // 33 stations, rule 3, a stage that there is not, a cursor past the stations, marks that are neither 0 nor 1
+        assert_eq!([with(1, 33), with(2, 3), with(3, 8), with(5, 1), with(1155, 2), with(1282, 2)], [42; 6]);
     }
 
     /// Rule 2: an idle station with round 32 passes the record test, until it votes.

@@ -1,23 +1,22 @@
 -- An entry and its bytes, both ways. Assumes nothing.
-use Prim.Native.Nat.{ℕ, zero, suc, _≤_, suc-le-suc}
-use mathlib.Core.Path.{_≡_, refl, subst}
-use mathlib.Core.Bool.{Bool, true, false, _||_}
-use mathlib.Core.List.{List, _++_}
-use native.Mathlib.Nat.{lt-of-lt-of-le, le-of-suc-le-suc}
+use Prim.Native.Nat.{ℕ, zero, suc, _≤_, _<_}
+use mathlib.Core.Path.{_≡_, refl}
+use mathlib.Core.Bool.{Bool, true, false}
+use mathlib.Core.List.{List, [], _∷_, _++_}
 use native.Mathlib.Omega.{arith}
-use borrow.Author.Tests.{lt-ltb, le-ltb, ltb-true, ltb-false}
-use lib.Bits.{bitOr, or-add-and, and-le-r, or-comm, or-lt}
+use borrow.Author.Tests.{ltb-false}
 use lib.Dec.{ltb}
 use lib.ListN.{length, take}
 use Rattle.basics.specs.Bytes.{byte, In-bytes}
 use Rattle.basics.proofs.Bytes.{four-again, bytes-again}
-use Rattle.basics.proofs.Bools.{by-bool, or-false}
+use Rattle.basics.proofs.Bools.{or-false}
 use Rattle.entry.specs.declared.entry.Stage.{Stage}
 use Rattle.entry.specs.declared.entry.Stage.the-variants.{Idle, Waiting, Voting, Awaiting, Seeking, FinishVoting, FinishAwaiting, Decided}
 use Rattle.entry.specs.declared.entry.Station.{Station}
 use Rattle.entry.specs.declared.entry.Ballot.{Ballot}
 use Rattle.entry.specs.Stages.{rank}
-use Rattle.image.specs.Entries.{stage-from, mark-byte, mark-from, station-bytes, station-from, ballot-bytes, ballot-from, no-mark, station-unread, ballot-unread}
+use Rattle.image.specs.Lists.{flat}
+use Rattle.image.specs.Entries.{stage-from, mark-byte, mark-from, station-bytes, station-from, voters-bytes, marks-bytes, ballot-from, no-mark, station-unread}
 use Rattle.image.specs.Image.{Station-fits, Ballot-fits}
 use Rattle.image.proofs.Lists.{first-bytes}
 
@@ -58,19 +57,6 @@ byte-again (suc (suc x)) h = absurd (omega arith)
 -- a byte that is no other than 0 and 1
 small : (x : ℕ) → no-mark x ≡ false → x ≤ 1
 small x e = ltb-false 1 x e
-
--- marks laid over one another are one where each is
-or-above : (x y : ℕ) → x ≤ bitOr x y
-or-above x y = let sum = or-add-and x y in let low = and-le-r x y in omega (arith, sum, low)
-
-pub marks-or : (x y : ℕ) → no-mark (bitOr x y) ≡ (no-mark x || no-mark y)
-marks-or x y =
-    by-bool (no-mark x)
-    (λ e. rw e (lt-ltb 1 (bitOr x y) (lt-of-lt-of-le (ltb-true 1 x e) (or-above x y))))
-    (λ e.
-    by-bool (no-mark y)
-    (λ f. rw (e, f) (lt-ltb 1 (bitOr x y) (lt-of-lt-of-le (ltb-true 1 y f) (subst (λ (z : ℕ). y ≤ z) (or-comm y x) (or-above y x)))))
-    (λ f. rw (e, f) (le-ltb 1 (bitOr x y) (le-of-suc-le-suc (or-lt 1 x y (suc-le-suc (small x e)) (suc-le-suc (small y f)))))))
 
 stage-exists : (g : Stage) → ltb 7 (rank g) ≡ false
 stage-exists Idle = refl
@@ -120,22 +106,35 @@ station-reads t rest = rw (stage-exists (t .stage), mark-exists (t .lost))
 
 -- ---- a ballot
 
-pub ballot-reads : (t : Ballot) (rest : List ℕ) → ballot-unread (ballot-bytes t ++ rest) ≡ false
-unfolding ballot-bytes
-ballot-reads t rest = rw (mark-exists (t .answered), mark-exists (t .answer))
+pub voters-wide : (t : Ballot) → length (voters-bytes t) ≡ 8
+unfolding voters-bytes
+voters-wide t = refl
 
-pub ballot-wide : (t : Ballot) → length (ballot-bytes t) ≡ 10
-unfolding ballot-bytes
-ballot-wide t = refl
+pub marks-wide : (t : Ballot) → length (marks-bytes t) ≡ 2
+unfolding marks-bytes
+marks-wide t = refl
 
-pub ballot-again : (t : Ballot) (rest : List ℕ) → Ballot-fits t → ballot-from (ballot-bytes t ++ rest) ≡ t
-unfolding ballot-bytes ballot-from
-ballot-again t rest fits = rw (four-again (t .cast0) (fits .cast0), four-again (t .cast1) (fits .cast1), mark-again (t .answered), mark-again (t .answer))
+-- each byte of the marks of any ballots is one
+pub marks-read : (l : List Ballot) (i : ℕ) → no-mark (byte (flat marks-bytes l) i) ≡ false
+unfolding flat marks-bytes
+marks-read [] i = refl
+marks-read (t ∷ l) zero = mark-exists (t .answered)
+marks-read (t ∷ l) (suc zero) = mark-exists (t .answer)
+marks-read (t ∷ l) (suc (suc i)) = marks-read l i
 
-pub ballot-there : (b : List ℕ) → 10 ≤ length b → In-bytes b → ballot-unread b ≡ false → ballot-bytes (ballot-from b) ≡ take 10 b
-unfolding ballot-bytes ballot-from
-ballot-there b long in-bytes read =
-    let tests = or-false _ _ read in
+pub ballot-again : (t : Ballot) (voters marks : List ℕ) → Ballot-fits t → ballot-from (voters-bytes t ++ voters) (marks-bytes t ++ marks) ≡ t
+unfolding voters-bytes marks-bytes ballot-from
+ballot-again t voters marks fits =
+    rw (four-again (t .cast0) (fits .cast0), four-again (t .cast1) (fits .cast1), mark-again (t .answered), mark-again (t .answer))
+
+pub voters-there : (b m : List ℕ) → 8 ≤ length b → In-bytes b → voters-bytes (ballot-from b m) ≡ take 8 b
+unfolding voters-bytes ballot-from
+voters-there b m long in-bytes =
     let zeros = bytes-again (byte b 0) (byte b 1) (byte b 2) (byte b 3) (in-bytes 0) (in-bytes 1) (in-bytes 2) (in-bytes 3) in
     let ones = bytes-again (byte b 4) (byte b 5) (byte b 6) (byte b 7) (in-bytes 4) (in-bytes 5) (in-bytes 6) (in-bytes 7) in
-    rw (first-bytes 10 b long, zeros .0, zeros .1, zeros .2, zeros .3, ones .0, ones .1, ones .2, ones .3, byte-again (byte b 8) (small (byte b 8) (tests .0)), byte-again (byte b 9) (small (byte b 9) (tests .1)))
+    rw (first-bytes 8 b long, zeros .0, zeros .1, zeros .2, zeros .3, ones .0, ones .1, ones .2, ones .3)
+
+pub marks-there : (b m : List ℕ) → 2 ≤ length m → ((i : ℕ) → i < 2 → no-mark (byte m i) ≡ false) → marks-bytes (ballot-from b m) ≡ take 2 m
+unfolding marks-bytes ballot-from
+marks-there b m long marks =
+    rw (first-bytes 2 m long, byte-again (byte m 0) (small (byte m 0) (marks 0 (omega arith))), byte-again (byte m 1) (small (byte m 1) (marks 1 (omega arith))))

@@ -3,23 +3,27 @@ use mathlib.Core.Path.{refl}
 use Rattle.basics.specs.Below.{any-below}
 use Rattle.basics.specs.Tests.{first-met}
 use Rattle.settlement.specs.Events.{outcome, opened}
-use Rattle.image.specs.Lists.{flat, cut}
-use Rattle.image.specs.Entries.{stage-from, station-bytes, station-from, ballot-bytes, ballot-from}
+use Rattle.image.specs.Lists.{flat, each}
+use Rattle.image.specs.Entries.{stage-from, station-bytes, station-from, voters-bytes, marks-bytes, ballot-from}
 use Rattle.image.specs.Image.{image-of, record-in, unread, no-image}
 use Rattle.image.specs.Examples.{Bytes-shown}
 
 pub bytes-shown : Bytes-shown
-unfolding any-below first-met outcome opened flat cut stage-from station-bytes station-from ballot-bytes ballot-from image-of record-in unread no-image
+unfolding any-below first-met outcome opened flat each stage-from station-bytes station-from voters-bytes marks-bytes ballot-from image-of record-in unread no-image
 bytes-shown = record {
   station = refl;
   station-read = refl;
   stages = refl;
   stages-read = refl;
-  ballots = refl;
-  ballot-read = refl;
+  voters = refl;
+  marks = refl;
+  ballots-read = refl;
   an-opening = refl;
   last-station = refl;
-  last-ballot = refl;
+  first-voters = refl;
+  last-voters = refl;
+  first-answered = refl;
+  last-answer = refl;
   nothing = refl;
   short = refl;
   long = refl;

@@ -1,5 +1,5 @@
 -- The numbers of a record that a list leads to fit their types: an event that is accepted leaves numbers that fit. Assumes nothing.
-use Prim.Native.Nat.{ℕ, _+_, _%_, _^_, _≤_, _<_}
+use Prim.Native.Nat.{ℕ, _+_, _%_, _≤_, _<_}
 use mathlib.Core.Path.{_≡_, refl, sym, subst, ap, _∙_}
 use mathlib.Core.Logic.{_⊎_, inl, inr}
 use mathlib.Core.Bool.{Bool, true, false}
@@ -11,7 +11,7 @@ use lib.Seq.{getD-set-same, getD-set-other}
 use borrow.Author.Tests.{eqb-true, eqb-false, ltb-true, ltb-false}
 use Rattle.basics.proofs.Bools.{by-bool, cond-ind}
 use Rattle.basics.proofs.Lists.{read-past, set-keeps}
-use Rattle.bits.specs.Words.{claim-bits, word-with-bit, insert}
+use Rattle.bits.specs.Words.{insert}
 use Rattle.bits.proofs.Words.{word-lt}
 use Rattle.consensus.specs.Events.{Event, claim, deliver, step, lose, answer, History, start, _▷_, Rule, rule-1, rule-2, Opening, Openable}
 use Rattle.consensus.specs.Terms.{Fitting, Claims-fit}

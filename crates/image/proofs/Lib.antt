@@ -1,5 +1,5 @@
 -- Laws that belong to no one function.
---     Lists     entries laid one after the other, cut and replaced
+--     Lists     entries laid one after the other, found and replaced
 --     Entries   an entry and its bytes, both ways
 --     Image     an image and its record, both ways
 --     Fits      the numbers of a record that a list leads to fit their types

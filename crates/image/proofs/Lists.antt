@@ -1,14 +1,14 @@
--- Entries laid one after the other: cut where they were joined they come back, an entry replaced is its bytes replaced, and each is found at its place.
--- Assumes nothing.
+-- Entries laid one after the other behind other bytes and before others: each is found at its place, an entry replaced is its bytes replaced, and
+-- entries read off the bytes are laid as they stood. Assumes nothing.
 use Prim.Native.Nat.{ℕ, zero, suc, _+_, _*_, _≤_, _<_}
 use mathlib.Core.Path.{_≡_, refl, sym, ap, ap₂, _∙_}
 use mathlib.Core.List.{List, [], _∷_, _++_, append-assoc}
-use native.Mathlib.Nat.{mul-zero, mul-suc, add-comm, add-assoc, add-zero, zero-add, zero-lt-suc, le-of-suc-le-suc, not-suc-le-zero}
+use native.Mathlib.Nat.{mul-zero, mul-suc, mul-le-mul-left, add-comm, add-assoc, zero-add, zero-lt-suc, le-of-lt, le-of-suc-le-suc, not-suc-le-zero}
 use native.Mathlib.Omega.{arith}
 use lib.ListN.{length, take, drop, getD, set, length-append}
-use lib.Seq.{drop-drop, drop-at, take-add, take-suc, take-append-le, take-append-add, drop-append-le, drop-append-add}
+use lib.Seq.{ext-getD, drop-drop, drop-at, take-add, take-suc, take-append-le, take-append-add, drop-append-le, drop-append-add}
 use Rattle.basics.specs.Bytes.{over}
-use Rattle.image.specs.Lists.{flat, cut}
+use Rattle.image.specs.Lists.{flat, each}
 
 -- ---- bytes replaced in one of two lists
 
@@ -35,23 +35,37 @@ pub first-bytes : (n : ℕ) (b : List ℕ) → n ≤ length b → take n b ≡ s
 first-bytes zero b h = refl
 first-bytes (suc n) b h = take-suc b n 0 h ∙ ap (λ (l : List ℕ). l ++ (getD b n 0 ∷ [])) (first-bytes n b (omega arith))
 
+-- ---- bytes that stand between two places
+
+pub record Between (b : List ℕ) (p n : ℕ) (fill : List ℕ) : Type 0 where
+  pub ends : p + length fill ≡ n
+  pub inside : n ≤ length b
+  pub there : drop p b ≡ fill ++ drop n b
+
+-- ---- what stands at each place
+
+module _ {A : Type 0} where
+  pub length-each : (k : ℕ) (f : ℕ → A) → length (each k f) ≡ k
+  unfolding each
+  length-each zero f = refl
+  length-each (suc k) f = ap suc (length-each k (λ i. f (suc i)))
+
+  pub getD-each : (k : ℕ) (f : ℕ → A) (s : ℕ) (d : A) → s < k → getD (each k f) s d ≡ f s
+  unfolding each
+  getD-each zero f s d h = absurd (not-suc-le-zero h)
+  getD-each (suc k) f zero d h = refl
+  getD-each (suc k) f (suc s) d h = getD-each k (λ i. f (suc i)) s d (le-of-suc-le-suc h)
+
+  -- a list is what stands at each of its places
+  pub each-again : (k : ℕ) (f : ℕ → A) (l : List A) (d : A) → length l ≡ k → ((s : ℕ) → s < k → f s ≡ getD l s d) → each k f ≡ l
+  each-again k f l d long same =
+      ext-getD d (each k f) l (length-each k f ∙ sym long)
+      (λ s h. let h : s < k = rw (length-each k f) at h in getD-each k f s d h ∙ same s h)
+
 -- ---- entries
 
 after-one : (w s : ℕ) (b : List ℕ) → drop (w * s) (drop w b) ≡ drop (w * suc s) b
 after-one w s b = drop-drop (w * s) w b ∙ ap (λ (n : ℕ). drop n b) (add-comm w (w * s) ∙ sym (mul-suc w s))
-
-module _ {A : Type 0} (g : List ℕ → A) (w : ℕ) where
-  pub length-cut : (k : ℕ) (b : List ℕ) → length (cut g w k b) ≡ k
-  unfolding cut
-  length-cut zero b = refl
-  length-cut (suc k) b = ap suc (length-cut k (drop w b))
-
-  -- an entry is found at its place
-  pub getD-cut : (k s : ℕ) (b : List ℕ) (d : A) → s < k → getD (cut g w k b) s d ≡ g (drop (w * s) b)
-  unfolding cut
-  getD-cut zero s b d h = absurd (not-suc-le-zero h)
-  getD-cut (suc k) zero b d h = rw mul-zero
-  getD-cut (suc k) (suc s) b d h = getD-cut k s (drop w b) d (le-of-suc-le-suc h) ∙ ap g (after-one w s b)
 
 module _ {A : Type 0} (f : A → List ℕ) (w : ℕ) (wide : (a : A) → length (f a) ≡ w) where
   pub length-flat : (l : List A) → length (flat f l) ≡ w * length l
@@ -59,8 +73,7 @@ module _ {A : Type 0} (f : A → List ℕ) (w : ℕ) (wide : (a : A) → length 
   length-flat [] = sym (mul-zero w)
   length-flat (a ∷ l) = length-append (f a) (flat f l) ∙ ap₂ _+_ (wide a) (length-flat l) ∙ add-comm w (w * length l) ∙ sym (mul-suc w (length l))
 
-  -- an entry replaced is its bytes replaced
-  pub flat-set : (l : List A) (i : ℕ) (t : A) → i < length l → flat f (set l i t) ≡ over (w * i) (f t) (flat f l)
+  flat-set : (l : List A) (i : ℕ) (t : A) → i < length l → flat f (set l i t) ≡ over (w * i) (f t) (flat f l)
   unfolding flat
   flat-set [] i t h = absurd (not-suc-le-zero h)
   flat-set (a ∷ l) zero t h =
@@ -70,8 +83,7 @@ module _ {A : Type 0} (f : A → List ℕ) (w : ℕ) (wide : (a : A) → length 
       ∙ sym (over-later (f a) (flat f l) (w * i) (f t))
       ∙ ap (λ (n : ℕ). over n (f t) (f a ++ flat f l)) (ap (λ (n : ℕ). n + w * i) (wide a) ∙ add-comm w (w * i) ∙ sym (mul-suc w i))
 
-  -- each entry's bytes stand at its place
-  pub flat-at : (l : List A) (s : ℕ) (d : A) → s < length l → drop (w * s) (flat f l) ≡ f (getD l s d) ++ drop (w * suc s) (flat f l)
+  flat-at : (l : List A) (s : ℕ) (d : A) → s < length l → drop (w * s) (flat f l) ≡ f (getD l s d) ++ drop (w * suc s) (flat f l)
   unfolding flat
   flat-at [] s d h = absurd (not-suc-le-zero h)
   flat-at (a ∷ l) zero d h = rw (mul-suc, mul-zero, zero-add, drop-at (f a) (flat f l) w (wide a))
@@ -80,26 +92,42 @@ module _ {A : Type 0} (f : A → List ℕ) (w : ℕ) (wide : (a : A) → length 
       (λ n. sym (after-one w n (f a ++ flat f l)) ∙ ap (λ (q : List ℕ). drop (w * n) q) (drop-at (f a) (flat f l) w (wide a))) in
       past s ∙ flat-at l s d (le-of-suc-le-suc h) ∙ ap (λ (q : List ℕ). f (getD l s d) ++ q) (sym (past (suc s)))
 
-  -- joined and cut again
-  pub cut-flat : (g : List ℕ → A) (P : A → Type 0) (again : (a : A) (rest : List ℕ) → P a → g (f a ++ rest) ≡ a)
-      → (l : List A) (d : A) (rest : List ℕ) → ((s : ℕ) → s < length l → P (getD l s d)) → cut g w (length l) (flat f l ++ rest) ≡ l
-  unfolding flat cut
-  cut-flat g P again [] d rest fits = refl
-  cut-flat g P again (a ∷ l) d rest fits =
-      let e : (f a ++ flat f l) ++ rest ≡ f a ++ (flat f l ++ rest) = append-assoc (f a) (flat f l) rest in
-      rw (
-        e,
-        again a (flat f l ++ rest) (fits 0 (zero-lt-suc _)),
-        drop-at (f a) (flat f l ++ rest) w (wide a),
-        cut-flat g P again l d rest (λ s h. fits (suc s) (omega arith)),
-      )
+  -- behind p bytes, and before the rest
+  module _ (a : List ℕ) (p : ℕ) (long : length a ≡ p) (l : List A) (rest : List ℕ) where
+    -- as far as an entry begins
+    reaches : (n : ℕ) → n ≤ length l → w * n ≤ length (flat f l)
+    reaches n h = rw (length-flat l) (mul-le-mul-left w h)
 
--- cut and joined again
-pub flat-cut : {A : Type 0} (f : A → List ℕ) (g : List ℕ → A) (w k : ℕ) (b : List ℕ)
-    → ((s : ℕ) → s < k → f (g (drop (w * s) b)) ≡ take w (drop (w * s) b)) → flat f (cut g w k b) ≡ take (w * k) b
-unfolding flat cut
-flat-cut f g w zero b same = rw mul-zero
-flat-cut f g w (suc k) b same =
-    let one : f (g b) ≡ take w b = rw mul-zero at (same 0 (zero-lt-suc k)) in
-    let later = flat-cut f g w k (drop w b) (λ s h. rw after-one (same (suc s) (omega arith))) in
+    -- an entry replaced is its bytes replaced
+    pub laid-set : (i : ℕ) (t : A) → i < length l → a ++ (flat f (set l i t) ++ rest) ≡ over (p + w * i) (f t) (a ++ (flat f l ++ rest))
+    laid-set i t h =
+        let room : w * i + length (f t) ≤ length (flat f l) = rw (wide t, ← mul-suc w i) (reaches (suc i) h) in
+        ap (λ (q : List ℕ). a ++ (q ++ rest)) (flat-set l i t h)
+        ∙ ap (λ (q : List ℕ). a ++ q) (sym (over-earlier (flat f l) rest (w * i) (f t) room))
+        ∙ sym (over-later a (flat f l ++ rest) (w * i) (f t))
+        ∙ ap (λ (n : ℕ). over (n + w * i) (f t) (a ++ (flat f l ++ rest))) long
+
+    -- each entry's bytes stand at its place
+    pub laid-at : (s : ℕ) (d : A) → s < length l → Between (a ++ (flat f l ++ rest)) (p + w * s) (p + w * suc s) (f (getD l s d))
+    laid-at s d h =
+        let past : (n : ℕ) → n ≤ length l → drop (p + w * n) (a ++ (flat f l ++ rest)) ≡ drop (w * n) (flat f l) ++ rest =
+        (λ n h. ap (λ (m : ℕ). drop (m + w * n) (a ++ (flat f l ++ rest))) (sym long) ∙ drop-append-add a (flat f l ++ rest) (w * n)
+        ∙ drop-append-le (w * n) (flat f l) rest (reaches n h)) in
+        record {
+          ends = rw (wide (getD l s d), mul-suc w s) (add-assoc p (w * s) w);
+          inside = omega (arith, long, reaches (suc s) h, length-append a (flat f l ++ rest), length-append (flat f l) rest);
+          there = past s (le-of-lt h)
+              ∙ ap (λ (q : List ℕ). q ++ rest) (flat-at l s d h)
+              ∙ append-assoc (f (getD l s d)) (drop (w * suc s) (flat f l)) rest
+              ∙ ap (λ (q : List ℕ). f (getD l s d) ++ q) (sym (past (suc s) h));
+        }
+
+-- entries that were read at their places are laid as they stood
+pub flat-each : {A : Type 0} (f : A → List ℕ) (w k : ℕ) (g : ℕ → A) (b : List ℕ)
+    → ((s : ℕ) → s < k → f (g s) ≡ take w (drop (w * s) b)) → flat f (each k g) ≡ take (w * k) b
+unfolding flat each
+flat-each f w zero g b same = rw mul-zero
+flat-each f w (suc k) g b same =
+    let one : f (g 0) ≡ take w b = rw mul-zero at (same 0 (zero-lt-suc k)) in
+    let later = flat-each f w k (λ i. g (suc i)) (drop w b) (λ s h. rw after-one (same (suc s) (omega arith))) in
     rw (one, later) (sym (take-add w (w * k) b) ∙ ap (λ (n : ℕ). take n b) (add-comm w (w * k) ∙ sym (mul-suc w k)))

@@ -1,4 +1,4 @@
--- A station's entry in 20 bytes and a ballot's in 10: numbers high byte first, as in the log. Assumes nothing.
+-- A station's entry in 20 bytes, a ballot's in 8 and 2: numbers high byte first, as in the log. Assumes nothing.
 use Prim.Native.Nat.{ℕ}
 use mathlib.Core.Bool.{Bool, cond, _||_}
 use mathlib.Core.List.{List, [], _∷_, _++_}
@@ -44,14 +44,18 @@ station-from b =
       decision = four-from b 16;
     }
 
--- the stations that cast 0 and those that cast 1, four bytes each (document 02, A.2); whether it is answered, and the answer
-unfoldable pub ballot-bytes : Ballot → List ℕ
-ballot-bytes t = four-bytes (t .cast0) ++ four-bytes (t .cast1) ++ (mark-byte (t .answered) ∷ mark-byte (t .answer) ∷ [])
+-- of a ballot: the stations that cast 0 and those that cast 1, four bytes each (document 02, A.2)
+unfoldable pub voters-bytes : Ballot → List ℕ
+voters-bytes t = four-bytes (t .cast0) ++ four-bytes (t .cast1)
 
-unfoldable pub ballot-from : List ℕ → Ballot
-ballot-from b = record { cast0 = four-from b 0; cast1 = four-from b 4; answered = mark-from (byte b 8); answer = mark-from (byte b 9) }
+-- and whether it is answered, and the answer
+unfoldable pub marks-bytes : Ballot → List ℕ
+marks-bytes t = mark-byte (t .answered) ∷ mark-byte (t .answer) ∷ []
 
--- a stage that does not exist, a mark that does not exist; a station with either, a ballot with such a mark
+unfoldable pub ballot-from : (voters marks : List ℕ) → Ballot
+ballot-from v m = record { cast0 = four-from v 0; cast1 = four-from v 4; answered = mark-from (byte m 0); answer = mark-from (byte m 1) }
+
+-- a stage that does not exist, a mark that does not exist; a station with either
 abbrev pub no-stage : ℕ → Bool
 no-stage x = ltb 7 x
 
@@ -60,6 +64,3 @@ no-mark x = ltb 1 x
 
 abbrev pub station-unread : List ℕ → Bool
 station-unread b = no-stage (byte b 0) || no-mark (byte b 1)
-
-abbrev pub ballot-unread : List ℕ → Bool
-ballot-unread b = no-mark (byte b 8) || no-mark (byte b 9)

@@ -1,4 +1,4 @@
--- A settlement as bytes that the caller keeps: the version, the record's numbers, its 32 station entries and its 64 ballot entries. Assumes nothing.
+-- A settlement as bytes that the caller keeps: the version, the record's numbers, its 32 station entries, and of its 64 ballots first who voted and then the marks. Assumes nothing.
 use Prim.Native.Nat.{ℕ, _+_, _*_, _<_}
 use mathlib.Core.Path.{_≡_}
 use mathlib.Core.Bool.{Bool, not, cond, _||_}
@@ -14,37 +14,52 @@ use Rattle.entry.specs.declared.entry.Ballot.{Ballot}
 use Rattle.entry.specs.Entries.{station-entries, ballot-entries, blank-station, blank-ballot}
 use Rattle.settlement.specs.declared.record.Settlement.{Settlement}
 use Rattle.settlement.specs.Fault.{fault}
-use Rattle.image.specs.Lists.{flat, cut}
-use Rattle.image.specs.Entries.{station-bytes, station-from, ballot-bytes, ballot-from, station-unread, ballot-unread}
+use Rattle.image.specs.Lists.{flat, each}
+use Rattle.image.specs.Entries.{station-bytes, station-from, voters-bytes, marks-bytes, ballot-from, no-mark, station-unread}
 
--- the layout: the version at 0, n at 1, the rule at 2, the stations from 3 on, the ballots after them
+-- the layout: the version at 0, n at 1, the rule at 2, the stations from 3 on; then who voted in the ballots, and then their marks,
+-- side by side, since every call looks at all of them
 abbrev pub version : ℕ
-version = 2
+version = 3
 
 abbrev pub station-width : ℕ
 station-width = 20
 
-abbrev pub ballot-width : ℕ
-ballot-width = 10
+abbrev pub voters-width : ℕ
+voters-width = 8
+
+abbrev pub marks-width : ℕ
+marks-width = 2
 
 abbrev pub station-at : ℕ → ℕ
 station-at s = 3 + station-width * s
 
-abbrev pub ballot-at : ℕ → ℕ
-ballot-at b = station-at station-entries + ballot-width * b
+abbrev pub voters-at : ℕ → ℕ
+voters-at b = station-at station-entries + voters-width * b
+
+abbrev pub marks-at : ℕ → ℕ
+marks-at b = voters-at ballot-entries + marks-width * b
 
 abbrev pub image-bytes : ℕ
-image-bytes = ballot-at ballot-entries
+image-bytes = marks-at ballot-entries
 
 unfoldable pub image-of : Settlement → List ℕ
-image-of r = version ∷ r .count ∷ r .rule ∷ flat station-bytes (r .stations) ++ flat ballot-bytes (r .ballots)
+image-of r =
+    version ∷ r .count ∷ r .rule
+    ∷ flat station-bytes (r .stations) ++ (flat voters-bytes (r .ballots) ++ flat marks-bytes (r .ballots))
 
 -- what the bytes say where they are an image
+abbrev pub station-read : List ℕ → ℕ → Station
+station-read b s = station-from (drop (station-at s) b)
+
+abbrev pub ballot-read : List ℕ → ℕ → Ballot
+ballot-read b k = ballot-from (drop (voters-at k) b) (drop (marks-at k) b)
+
 abbrev pub stations-in : List ℕ → List Station
-stations-in b = cut station-from station-width station-entries (drop (station-at 0) b)
+stations-in b = each station-entries (station-read b)
 
 abbrev pub ballots-in : List ℕ → List Ballot
-ballots-in b = cut ballot-from ballot-width ballot-entries (drop (ballot-at 0) b)
+ballots-in b = each ballot-entries (ballot-read b)
 
 unfoldable pub record-in : List ℕ → Settlement
 record-in b = record { count = byte b 1; rule = byte b 2; stations = stations-in b; ballots = ballots-in b }
@@ -55,7 +70,7 @@ record-in b = record { count = byte b 1; rule = byte b 2; stations = stations-in
 unfoldable pub unread : List ℕ → Bool
 unread b =
     any-below station-entries (λ s. station-unread (drop (station-at s) b))
-    || any-below ballot-entries (λ k. ballot-unread (drop (ballot-at k) b))
+    || any-below (marks-width * ballot-entries) (λ i. no-mark (byte (drop (marks-at 0) b) i))
 
 abbrev pub other-length : List ℕ → Bool
 other-length b = not (eqb (length b) image-bytes)
@@ -118,5 +133,5 @@ pub record Round-trip : Type 0 where
 -- bytes that are no image: another length is 80, another version 81, and all else 42
 pub record Numbers-told : Type 0 where
   pub another-length : (b : List ℕ) → (length b ≡ 1283 → ⊥) → no-image b ≡ 80
-  pub another-version : (b : List ℕ) → length b ≡ 1283 → (byte b 0 ≡ 2 → ⊥) → no-image b ≡ 81
-  pub nothing-else : (b : List ℕ) → length b ≡ 1283 → byte b 0 ≡ 2 → (no-image b ≡ 0 → ⊥) → no-image b ≡ 42
+  pub another-version : (b : List ℕ) → length b ≡ 1283 → (byte b 0 ≡ 3 → ⊥) → no-image b ≡ 81
+  pub nothing-else : (b : List ℕ) → length b ≡ 1283 → byte b 0 ≡ 3 → (no-image b ≡ 0 → ⊥) → no-image b ≡ 42

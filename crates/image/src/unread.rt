@@ -2,18 +2,30 @@
 ghost use mathlib.Core.Path.{_≡_};
 ghost use lib.ListN.{length, drop};
 ghost use Rattle.basics.specs.Below.{any-below};
-ghost use Rattle.entry.specs.Entries.{station-entries, ballot-entries};
-ghost use Rattle.image.specs.Entries.{station-unread, ballot-unread};
-ghost use Rattle.image.specs.Image.{station-at, ballot-at, image-bytes, no-image};
-use crate::layout::BALLOT_WIDTH;
-use crate::layout::BALLOTS;
+ghost use Rattle.basics.specs.Bytes.{byte};
+ghost use Rattle.entry.specs.Entries.{station-entries};
+ghost use Rattle.image.specs.Entries.{no-mark, station-unread};
+ghost use Rattle.image.specs.Image.{station-at, image-bytes, no-image};
 use crate::layout::IMAGE_BYTES;
+use crate::layout::MARKS;
 use crate::layout::STATION_WIDTH;
 use crate::layout::STATIONS;
 use crate::layout::VERSION;
 use basics::refusal::refuse;
-use entry::entry::BALLOT_ENTRIES;
 use entry::entry::STATION_ENTRIES;
+
+// Whether a byte of the part is no mark.
+fn some_no_mark(part: &[u8]) -> bool
+    ensures { λ x. ⌜ x ≡ any-below (length (now (part .entry))) (λ i. no-mark (byte (now (part .entry)) i)) ⌝ }
+{
+    let mut found = false;
+    let mut i: usize = 0;
+    while i < part.len() {
+        found = (1 < part[i]) | found;
+        i += 1;
+    }
+    found
+}
 
 // Whether a station has a stage or a mark that does not exist.
 fn some_station_unread(image: &[u8]) -> bool
@@ -30,21 +42,6 @@ fn some_station_unread(image: &[u8]) -> bool
     found
 }
 
-// Whether a ballot has a mark that does not exist: all marks laid over one another are one where each is.
-fn some_ballot_unread(image: &[u8]) -> bool
-    requires { ⌜ length (now image) ≡ image-bytes ⌝ }
-    ensures { λ x. ⌜ x ≡ any-below ballot-entries (λ k. ballot-unread (drop (ballot-at k) (now (image .entry)))) ⌝ }
-{
-    let mut marks: u8 = 0;
-    let mut k: usize = 0;
-    while k < BALLOT_ENTRIES {
-        let at = BALLOTS + BALLOT_WIDTH * k;
-        marks = image[at + 8] | image[at + 9] | marks;
-        k += 1;
-    }
-    1 < marks
-}
-
 // 0 for an image, else the number of what the bytes are.
 pub fn no_image(image: &[u8]) -> u8
     ensures { λ x. ⌜ x ≡ no-image (now (image .entry)) ⌝ }
@@ -52,6 +49,6 @@ pub fn no_image(image: &[u8]) -> u8
     if image.len() != IMAGE_BYTES {
         return 80;
     }
-    let unread = some_station_unread(image) | some_ballot_unread(image);
+    let unread = some_station_unread(image) | some_no_mark(&image[MARKS..]);
     refuse(image[0] != VERSION, 81, refuse(unread, 42, 0))
 }

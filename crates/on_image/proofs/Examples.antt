@@ -11,8 +11,8 @@ use Rattle.settlement.specs.Fault.{station-fault, fault}
 use Rattle.settlement.specs.Events.{outcome, number, effect, played}
 use Rattle.settlement.specs.Look.{votes, looked}
 use Rattle.settlement.specs.Tally.{tally, tallied}
-use Rattle.image.specs.Lists.{flat, cut}
-use Rattle.image.specs.Entries.{stage-from, station-bytes, station-from, ballot-bytes, ballot-from}
+use Rattle.image.specs.Lists.{flat, each}
+use Rattle.image.specs.Entries.{stage-from, station-bytes, station-from, voters-bytes, marks-bytes, ballot-from}
 use Rattle.image.specs.Image.{image-of, record-in, unread, no-image}
 use Rattle.on_image.specs.Events.{image-number, image-after}
 use Rattle.on_image.specs.Look.{looked-on, standing-bytes, standing-word, standings, all-number, all-after, all-answer}
@@ -20,7 +20,7 @@ use Rattle.on_image.specs.Tally.{tally-bytes, tally-number, tally-after,
 use Rattle.on_image.specs.Examples.{Looks-shown, Events-shown, Tallies-shown}
 
 pub looks-shown : Looks-shown
-unfolding any-below first-met bit least-from ceil-log2 station-fault fault votes looked flat cut stage-from station-from ballot-from record-in unread no-image looked-on standing-bytes standing-word standings all-number all-after all-answer
+unfolding any-below first-met bit least-from ceil-log2 station-fault fault votes looked flat each stage-from station-from ballot-from record-in unread no-image looked-on standing-bytes standing-word standings all-number all-after all-answer
 looks-shown = record {
   bytes = refl;
   word = refl;
@@ -39,11 +39,11 @@ looks-shown = record {
 }
 
 pub events-shown : Events-shown
-unfolding any-below first-met digits-in binary-digits bit least-from ceil-log2 with-bit low-agree word-with-bit member insert own-after ballot-after stepped voted station-fault fault outcome number effect played flat cut stage-from station-bytes station-from ballot-bytes ballot-from image-of record-in unread no-image image-number image-after
+unfolding any-below first-met digits-in binary-digits bit least-from ceil-log2 with-bit low-agree word-with-bit member insert own-after ballot-after stepped voted station-fault fault outcome number effect played flat each stage-from station-bytes station-from voters-bytes marks-bytes ballot-from image-of record-in unread no-image image-number image-after
 events-shown = record {
   short = refl;
   short-left = refl;
-  newer = refl;
+  older = refl;
   no-stage = refl;
   no-rule = refl;
   no-station = refl;
@@ -62,7 +62,7 @@ events-shown = record {
 }
 
 pub tallies-shown : Tallies-shown
-unfolding any-below count-below first-met digits-in binary-digits bit least-from ceil-log2 member size station-fault fault tally tallied cut stage-from station-from ballot-from record-in unread no-image tally-bytes tally-number tally-after tally-answer
+unfolding any-below count-below first-met digits-in binary-digits bit least-from ceil-log2 member size station-fault fault tally tallied each stage-from station-from ballot-from record-in unread no-image tally-bytes tally-number tally-after tally-answer
 tallies-shown = record {
   bytes = refl;
   answer = refl;
@@ -72,7 +72,7 @@ tallies-shown = record {
   no-room = refl;
   no-room-left = refl;
   short = refl;
-  newer = refl;
+  older = refl;
   no-rule = refl;
   no-rule-left = refl;
   no-ballot = refl;

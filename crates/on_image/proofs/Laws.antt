@@ -1,12 +1,12 @@
 -- Two entries stored in an image are the image of the record with both; bytes that are no image are turned away first. Assumes nothing.
 use Prim.Native.Nat.{ℕ, _+_, _<_}
-use mathlib.Core.Path.{_≡_, refl, sym, ap, _∙_}
+use mathlib.Core.Path.{_≡_, sym, ap, _∙_}
 use mathlib.Core.Bool.{false, cond}
 use mathlib.Core.List.{List}
 use borrow.Author.Tests.{ne-eqb}
 use lib.Dec.{eqb}
 use native.Mathlib.Nat.{add-zero}
-use lib.ListN.{length, length-set}
+use lib.ListN.{length-set}
 use lib.Seq.{getD-drop}
 use Rattle.basics.specs.Bytes.{byte, In-bytes, over}
 use Rattle.entry.specs.declared.entry.Station.{Station}
@@ -15,20 +15,20 @@ use Rattle.consensus.specs.Events.{Event}
 use Rattle.settlement.specs.Record.{with-station, with-ballot}
 use Rattle.settlement.specs.Events.{played}
 use Rattle.settlement.specs.Fault.{station-fault, fault-at}
-use Rattle.image.specs.Entries.{stage-from, station-from, station-bytes, ballot-bytes}
-use Rattle.image.specs.Image.{station-at, ballot-at, image-of, record-in, no-image}
+use Rattle.image.specs.Entries.{stage-from, station-from, station-bytes, voters-bytes, marks-bytes}
+use Rattle.image.specs.Image.{station-at, voters-at, marks-at, image-of, record-in, no-image}
 use Rattle.image.proofs.Image.{is-image, entry-in, stations-in, ballots-in, image-again, station-stored, ballot-stored}
 use Rattle.on_image.specs.Events.{image-number, image-after}
 
 pub two-stored : (b : List ℕ) → no-image b ≡ 0 → In-bytes b → (i : ℕ) (t : Station) (k : ℕ) (u : Ballot) → i < 32 → k < 64
-    → over (ballot-at k) (ballot-bytes u) (over (station-at i) (station-bytes t) b) ≡ image-of (with-ballot k u (with-station i t (record-in b)))
+    → over (marks-at k) (marks-bytes u) (over (voters-at k) (voters-bytes u) (over (station-at i) (station-bytes t) b)) ≡ image-of (with-ballot k u (with-station i t (record-in b)))
 two-stored b an in-bytes i t k u hi hk =
     let r = record-in b in
     let whole : image-of r ≡ b = image-again b (is-image b an) in-bytes in
     let first : image-of (with-station i t r) ≡ over (station-at i) (station-bytes t) b =
     station-stored r (stations-in b) i t hi ∙ ap (λ (l : List ℕ). over (station-at i) (station-bytes t) l) whole in
     sym (ballot-stored (with-station i t r) (length-set (r .stations) i t ∙ stations-in b) (ballots-in b) k u hk
-    ∙ ap (λ (l : List ℕ). over (ballot-at k) (ballot-bytes u) l) first)
+    ∙ ap (λ (l : List ℕ). over (marks-at k) (marks-bytes u) (over (voters-at k) (voters-bytes u) l)) first)
 
 -- what the record test asks of a station stands in three of its bytes
 abbrev pub asked : List ℕ → ℕ → Station

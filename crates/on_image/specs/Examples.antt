@@ -14,7 +14,7 @@ use Rattle.on_image.specs.Tally.{tally-bytes, tally-answer, tally-after}
 
 -- the image of two stations by station that OPEN leaves, and what CLAIM 1, 0x01020304 leaves of it: station 1 begins at 23
 abbrev pub two : List ℕ
-two = 2 ∷ 2 ∷ 1 ∷ replicate 1280 0
+two = 3 ∷ 2 ∷ 1 ∷ replicate 1280 0
 
 abbrev pub claimed : List ℕ
 claimed = set (set (set (set (set two 23 1) 31 1) 32 2) 33 3) 34 4
@@ -25,7 +25,7 @@ decided = record { number = 0; decided = true; claim = 0x01020304; votes = 5 }
 
 -- two stations by claim; station 1 has decided 7 in round 3: stage at 23, round at 26, decision from 39 on
 abbrev pub one-decided : List ℕ
-one-decided = set (set (set (2 ∷ 2 ∷ 2 ∷ replicate 1280 0) 23 7) 26 3) 42 7
+one-decided = set (set (set (3 ∷ 2 ∷ 2 ∷ replicate 1280 0) 23 7) 26 3) 42 7
 
 -- station 1 votes in ballot 0, its cursor on itself: bit 0 of 1 is cast, and station 1 is in the set of 1, whose last byte is at 650
 abbrev pub voting : List ℕ
@@ -34,9 +34,9 @@ voting = set (set two 23 2) 25 1
 abbrev pub voted : List ℕ
 voted = set (set voting 23 3) 650 2
 
--- the answer 1 stands in ballot 0, and nobody cast it
+-- the answer 1 stands in ballot 0, whose marks are at 1155, and nobody cast it
 abbrev pub uncast : List ℕ
-uncast = set (set two 651 1) 652 1
+uncast = set (set two 1155 1) 1156 1
 
 pub record Looks-shown : Type 0 where
   -- number, decided, votes, 0, and the claim high byte first; the word is those bytes in one number
@@ -49,9 +49,9 @@ pub record Looks-shown : Type 0 where
   pub all : all-after one-decided (replicate 18 9)
       ≡ 0 ∷ 0 ∷ 0 ∷ 0 ∷ 0 ∷ 0 ∷ 0 ∷ 0 ∷ 0 ∷ 1 ∷ 8 ∷ 0 ∷ 0 ∷ 0 ∷ 0 ∷ 7 ∷ 9 ∷ 9 ∷ []
   pub all-count : all-answer one-decided (replicate 18 9) ≡ 16
-  pub all-of-32 : all-answer (2 ∷ 32 ∷ 1 ∷ replicate 1280 0) (replicate 256 9) ≡ 256
+  pub all-of-32 : all-answer (3 ∷ 32 ∷ 1 ∷ replicate 1280 0) (replicate 256 9) ≡ 256
   pub just-room : all-answer one-decided (replicate 16 9) ≡ 16
-  pub nobody-there : all-answer (2 ∷ 0 ∷ 1 ∷ replicate 1280 0) [] ≡ 0
+  pub nobody-there : all-answer (3 ∷ 0 ∷ 1 ∷ replicate 1280 0) [] ≡ 0
   pub no-room : all-answer one-decided (replicate 15 9) ≡ 30 * 65536
   pub no-room-left : all-after one-decided (replicate 15 9) ≡ replicate 15 9
   pub all-80 : all-answer [] [] ≡ 80 * 65536
@@ -61,7 +61,7 @@ pub record Events-shown : Type 0 where
   -- 80 and 81 before all else, and no byte is changed
   pub short : image-number [] (lose 0) ≡ 80
   pub short-left : image-after (7 ∷ []) (lose 0) ≡ 7 ∷ []
-  pub newer : image-number (set two 0 3) (lose 9) ≡ 81
+  pub older : image-number (set two 0 2) (lose 9) ≡ 81
   -- 42, though there is no station 9 either
   pub no-stage : image-number (set two 3 8) (lose 9) ≡ 42
   pub no-rule : image-number (set two 2 3) (lose 9) ≡ 42
@@ -77,7 +77,7 @@ pub record Events-shown : Type 0 where
   pub answer-number : image-number two (answer 0 1) ≡ 12
   -- a vote: the stage, and the voter in the set of the bit; its ANSWER: two marks
   pub vote-left : image-after voting (step 1) ≡ voted
-  pub answer-left : image-after voted (answer 0 1) ≡ set (set voted 651 1) 652 1
+  pub answer-left : image-after voted (answer 0 1) ≡ set (set voted 1155 1) 1156 1
   -- the bit that stands again, though nobody cast it: every byte as it was; the other bit: 11
   pub again-number : image-number uncast (answer 0 1) ≡ 0
   pub again-left : image-after uncast (answer 0 1) ≡ uncast
@@ -100,7 +100,7 @@ pub record Tallies-shown : Type 0 where
   pub no-room-left : tally-after voted 0 (replicate 11 9) ≡ replicate 11 9
   -- refused: 80, 81, 42 before 9, 9 before 30, and no byte is written
   pub short : tally-answer [] 0 [] ≡ 80 * 65536
-  pub newer : tally-answer (set two 0 3) 1 [] ≡ 81 * 65536
+  pub older : tally-answer (set two 0 2) 1 [] ≡ 81 * 65536
   pub no-rule : tally-answer (set voted 2 3) 1 [] ≡ 42 * 65536
   pub no-rule-left : tally-after (set voted 2 3) 0 (replicate 13 9) ≡ replicate 13 9
   pub no-ballot : tally-answer two 1 [] ≡ 9 * 65536

@@ -12,14 +12,14 @@ use Rattle.consensus.specs.Events.{History, start, Opening, Openable}
 use Rattle.settlement.specs.declared.record.Settlement.{Settlement}
 use Rattle.settlement.specs.Fault.{fault}
 use Rattle.settlement.specs.Events.{blank, opened}
-use Rattle.settlement.specs.Link.{rule-number, record-after}
+use Rattle.settlement.specs.Link.{rule-number}
 use Rattle.settlement.proofs.Link.Demands.{demands}
 use Rattle.log.specs.Run.{ran}
-use Rattle.log.specs.Demand.{Unopened, Played, Run-told}
+use Rattle.log.specs.Demand.{Unopened, Played}
 use Rattle.log.proofs.Played.{log-demand}
 use Rattle.report.specs.Text.{text}
 use Rattle.report.specs.Report.{text-of}
-use Rattle.image.specs.Image.{image-of, record-in, no-image, Record-fits}
+use Rattle.image.specs.Image.{image-of, Record-fits}
 use Rattle.image.proofs.Image.{an-image, record-again}
 use Rattle.image.proofs.Fits.{fresh-fits, after-fits}
 use Rattle.on_image.specs.Lists.{Stands}

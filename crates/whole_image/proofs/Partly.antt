@@ -4,11 +4,12 @@ use mathlib.Core.Path.{_≡_, refl, sym, ap, ap₂, _∙_}
 use mathlib.Core.List.{List, [], _∷_, _++_, append-nil, append-assoc}
 use native.Mathlib.Omega.{arith}
 use native.Mathlib.Numerals.{add-one}
-use lib.ListN.{length, take, drop, getD, set, length-append, length-drop, drop-of-length-le}
+use lib.ListN.{length, take, drop, getD, set, length-append, length-drop, length-set, drop-of-length-le, take-append-drop}
 use lib.Seq.{length-take-le, take-all, take-suc, take-add, take-at, take-append-seam, drop-at, drop-cons, drop-drop, set-at, append-snoc, sets}
 use borrow.Rule.Slice.PartMut.{putMid}
 use Rattle.basics.specs.Bytes.{over}
 use Rattle.basics.proofs.Bytes.{filled}
+use Rattle.image.proofs.Lists.{Between}
 
 -- the list with its first n entries from the target
 abbrev pub partly : {A : Type 0} → ℕ → List A → List A → List A
@@ -50,6 +51,10 @@ pub record Stored (target l : List ℕ) (size n : ℕ) (b : List ℕ) : Type 0 w
   pub long : length b ≡ size
   pub so-far : b ≡ partly n target l
 
+-- before a loop that goes on from n
+pub stored-from : {target b : List ℕ} {size n : ℕ} → length b ≡ size → take n b ≡ take n target → Stored target b size n b
+stored-from {target} {b} {size} {n} long same = record { long = long; so-far = rw (← same) (sym (take-append-drop n b)) }
+
 pub stored-front : {target l b : List ℕ} {size n : ℕ} → n ≤ length target → Stored target l size n b → take n b ≡ take n target
 stored-front {target} {l} {b} {size} {n} h so = ap (take n) (so .so-far) ∙ partly-front target l n h
 
@@ -58,14 +63,22 @@ stored-whole {target} {l} {b} {size} t h so = so .so-far ∙ partly-all target l
 
 -- the next bytes stored by one to whom the part from there on was lent
 module _ (target l : List ℕ) (size : ℕ) (t : length target ≡ size) (h : length l ≡ size) where
-  pub stored-more : (p n : ℕ) (fill rest b part : List ℕ) → p + length fill ≡ n → n ≤ size → drop p target ≡ fill ++ rest
-      → Stored target l size p b → part ≡ sets (take (length b - p) (drop p b)) 0 fill → Stored target l size n (putMid p (length b - p) b part)
-  stored-more p n fill rest b part place room next so e =
+  pub stored-more : {p n : ℕ} {fill b part : List ℕ} → Between target p n fill → Stored target l size p b
+      → part ≡ sets (take (length b - p) (drop p b)) 0 fill → Stored target l size n (putMid p (length b - p) b part)
+  stored-more {p} {n} {fill} {b} {part} between so e =
       let whole : putMid p (length b - p) b part ≡ partly n target l =
       rw e
-      (filled p b fill (omega arith) ∙ ap (over p fill) (so .so-far) ∙ partly-over target l fill rest p (omega arith) next
-      ∙ ap (λ (k : ℕ). partly k target l) place) in
+      (filled p b fill (omega arith) ∙ ap (over p fill) (so .so-far) ∙ partly-over target l fill (drop n target) p (omega arith) (between .there)
+      ∙ ap (λ (k : ℕ). partly k target l) (between .ends)) in
       record { long = ap length whole ∙ partly-long target l n (omega arith) (omega arith) ∙ h; so-far = whole }
+
+  -- the next byte stored
+  pub stored-byte : {b : List ℕ} (i x : ℕ) → i < size → getD target i 0 ≡ x → Stored target l size i b → Stored target l size (i + 1) (set b i x)
+  stored-byte {b} i x inside next so =
+      record {
+        long = length-set b i x ∙ so .long;
+        so-far = ap₂ (λ (q : List ℕ) (y : ℕ). set q i y) (so .so-far) (sym next) ∙ partly-set target l i 0 (rw t inside) (rw h inside);
+      }
 
 -- the first three bytes stored
 pub three-set : (b : List ℕ) (x y z : ℕ) → 3 ≤ length b → set (set (set b 0 x) 1 y) 2 z ≡ x ∷ y ∷ z ∷ drop 3 b

@@ -15,7 +15,7 @@ pub record Whole-shown : Type 0 where
   pub long : stored-number (replicate 1284 9) 0 ≡ 80
   -- whatever stood there is written over; refused, the blank settlement's image
   pub refused : stored-number (replicate 1283 9) (opened 33 3 .number) ≡ 40
-  pub refused-left : stored (replicate 1283 9) (opened 33 3 .settlement) ≡ 2 ∷ 0 ∷ 1 ∷ replicate 1280 0
+  pub refused-left : stored (replicate 1283 9) (opened 33 3 .settlement) ≡ 3 ∷ 0 ∷ 1 ∷ replicate 1280 0
   pub opened-left : stored (replicate 1283 9) (opened 2 1 .settlement) ≡ two
   -- what is no image is read as the blank settlement, with its number
   pub unread : read-record [] ≡ record { number = 80; settlement = blank }

@@ -1,18 +1,21 @@
 // A whole record read off an image, and stored as one.
 ghost use mathlib.Core.Path.{_≡_};
 ghost use lib.ListN.{length, take};
-ghost use Rattle.image.specs.Image.{ballot-at, image-bytes, image-of, stations-in, ballots-in};
+ghost use Rattle.image.specs.Image.{voters-at, marks-at, image-bytes, image-of, stations-in, ballots-in};
 ghost use Rattle.whole_image.specs.Whole.{read-record, stored-number, stored};
 use entry::entry::BALLOT_ENTRIES;
 use entry::entry::STATION_ENTRIES;
 use image::ballot::ballot_from;
-use image::ballot::write_ballot;
-use image::layout::BALLOT_WIDTH;
-use image::layout::BALLOTS;
+use image::ballot::write_marks;
+use image::ballot::write_voters;
 use image::layout::IMAGE_BYTES;
+use image::layout::MARKS;
+use image::layout::MARKS_WIDTH;
 use image::layout::STATION_WIDTH;
 use image::layout::STATIONS;
 use image::layout::VERSION;
+use image::layout::VOTERS;
+use image::layout::VOTERS_WIDTH;
 use image::station::station_from;
 use image::station::write_station;
 use image::unread::no_image;
@@ -44,7 +47,10 @@ fn with_ballots(r: Settlement, image: &[u8]) -> Settlement
     let mut next = r;
     let mut k: usize = 0;
     while k < BALLOT_ENTRIES {
-        let t = ballot_from(&image[BALLOTS + BALLOT_WIDTH * k..]);
+        let t = ballot_from(
+            &image[VOTERS + VOTERS_WIDTH * k..],
+            &image[MARKS + MARKS_WIDTH * k..],
+        );
         next.ballots[k] = t;
         k += 1;
     }
@@ -72,10 +78,10 @@ pub fn read_record(image: &[u8]) -> Outcome
     }
 }
 
-// The version, the record's numbers and its stations stored: the image as far as the ballots.
+// The version, the record's numbers and its stations stored: the image as far as who voted.
 fn store_stations(image: &mut [u8], r: Settlement)
     requires { ⌜ length (now image) ≡ image-bytes ⌝ }
-    ensures { λ _. ⌜ take (ballot-at 0) (now (image .exit)) ≡ take (ballot-at 0) (image-of r) ⌝ }
+    ensures { λ _. ⌜ take (voters-at 0) (now (image .exit)) ≡ take (voters-at 0) (image-of r) ⌝ }
 {
     image[0] = VERSION;
     image[1] = r.count;
@@ -89,15 +95,28 @@ fn store_stations(image: &mut [u8], r: Settlement)
     }
 }
 
-// The ballots stored after them: the image whole.
-fn store_ballots(image: &mut [u8], r: Settlement)
-    requires { ⌜ (length (now image) ≡ image-bytes) × (take (ballot-at 0) (now image) ≡ take (ballot-at 0) (image-of r)) ⌝ }
+// Who voted in the ballots, stored after them: the image as far as the marks.
+fn store_voters(image: &mut [u8], r: Settlement)
+    requires { ⌜ (length (now image) ≡ image-bytes) × (take (voters-at 0) (now image) ≡ take (voters-at 0) (image-of r)) ⌝ }
+    ensures { λ _. ⌜ take (marks-at 0) (now (image .exit)) ≡ take (marks-at 0) (image-of r) ⌝ }
+{
+    let mut k: usize = 0;
+    while k < BALLOT_ENTRIES {
+        let t = r.ballots[k];
+        write_voters(&mut image[VOTERS + VOTERS_WIDTH * k..], t);
+        k += 1;
+    }
+}
+
+// The marks stored after them: the image whole.
+fn store_marks(image: &mut [u8], r: Settlement)
+    requires { ⌜ (length (now image) ≡ image-bytes) × (take (marks-at 0) (now image) ≡ take (marks-at 0) (image-of r)) ⌝ }
     ensures { λ _. ⌜ now (image .exit) ≡ image-of r ⌝ }
 {
     let mut k: usize = 0;
     while k < BALLOT_ENTRIES {
         let t = r.ballots[k];
-        write_ballot(&mut image[BALLOTS + BALLOT_WIDTH * k..], t);
+        write_marks(&mut image[MARKS + MARKS_WIDTH * k..], t);
         k += 1;
     }
 }
@@ -111,6 +130,7 @@ pub fn store_record(image: &mut [u8], r: Settlement, number: u8) -> u8
         return 80;
     }
     store_stations(image, r);
-    store_ballots(image, r);
+    store_voters(image, r);
+    store_marks(image, r);
     number
 }

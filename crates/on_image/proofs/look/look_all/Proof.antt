@@ -1,5 +1,5 @@
 -- `on_image::look::look_all`: the answers are written where they fit, and else nothing. Assumes nothing.
-use mathlib.Core.Path.{_≡_, refl, sym, _∙_}
+use mathlib.Core.Path.{refl, sym, _∙_}
 use denote.Ref.{now}
 use native.Mathlib.Omega.{arith}
 use Rattle.image.specs.Image.{record-in}

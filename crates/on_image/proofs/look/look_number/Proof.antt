@@ -1,5 +1,5 @@
 -- `on_image::look::look_number`: bytes that are no image first, then the tests of LOOK. Assumes nothing.
-use mathlib.Core.Path.{_≡_, refl, sym, ap, _∙_}
+use mathlib.Core.Path.{sym, ap, _∙_}
 use denote.Ref.{now}
 use native.Mathlib.Omega.{arith}
 use Rattle.basics.specs.Tests.{first-met}

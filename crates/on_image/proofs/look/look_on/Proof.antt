@@ -1,7 +1,6 @@
 -- `on_image::look::look_on`: a number other than 0 comes with nothing shown. Assumes nothing.
-use mathlib.Core.Path.{_≡_, refl, sym, ap, _∙_}
+use mathlib.Core.Path.{sym, _∙_}
 use denote.Ref.{now}
-use native.Mathlib.Omega.{arith}
 use Rattle.image.proofs.Image.{is-image}
 use Rattle.on_image.proofs.Looks.{image-shown, nothing-shown, something-shown}
 use borrow.Author.Needs.{needs}

@@ -1,7 +1,7 @@
 -- `on_image::look::put_standings`: station by station; the measure is what is left of them. Assumes nothing.
 use mathlib.Core.List.{List}
 use Rattle.basics.specs.Bytes.{byte}
-use mathlib.Core.Path.{_≡_, refl, sym, ap, _∙_}
+use mathlib.Core.Path.{_≡_}
 use denote.Ref.{now}
 use native.Mathlib.Omega.{arith}
 use Prim.Native.Nat.{ℕ, _+_, _*_, _-_, _≤_, _<_}

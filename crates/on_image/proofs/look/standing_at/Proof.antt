@@ -1,7 +1,6 @@
 -- `on_image::look::standing_at`: a LOOK that is not refused is of a station inside the array, whose votes fit a byte. Assumes nothing.
-use mathlib.Core.Path.{_≡_, refl, sym, ap, _∙_}
+use mathlib.Core.Path.{sym}
 use denote.Ref.{now}
-use native.Mathlib.Omega.{arith}
 use Rattle.settlement.proofs.Votes.{few-votes}
 use Rattle.image.specs.Image.{record-in}
 use Rattle.on_image.proofs.Looks.{passed, shown}

@@ -1,4 +1,4 @@
--- `on_image::place::ballot_in`: the part from its place on begins with the entry. Assumes nothing.
+-- `on_image::place::ballot_in`: the parts from its two places on begin with the entry. Assumes nothing.
 use mathlib.Core.Path.{sym}
 use denote.Ref.{now}
 use Rattle.basics.proofs.Bytes.{to-end}
@@ -9,8 +9,8 @@ use Rattle.on_image.proofs.place.ballot_in.Tie as tie
 
 returns : tie.Need-returns
 returns c =
-    let start = c .before .before .before in
-    rw (c .ballot-from .ensures, to-end) (sym (ballot-in (now (start .args .image)) (start .args .k) (start .pre .1)))
+    let start = c .before .before .before .before in
+    rw (c .ballot-from .ensures, to-end, to-end) (sym (ballot-in (now (start .args .image)) (start .args .k) (start .pre .1)))
 
 pub ballot-in-spec : {M : Type 1} → statement M
 ballot-in-spec =
@@ -21,5 +21,10 @@ ballot-in-spec =
     (λ sub-ballot-from. search needs)
     (λ part-ballot-from-start. search needs)
     (λ part-ballot-from-end. search needs)
+    (λ mul-ballot-from-2. search needs)
+    (λ add-ballot-from-2. search needs)
+    (λ sub-ballot-from-2. search needs)
+    (λ part-ballot-from-start-2. search needs)
+    (λ part-ballot-from-end-2. search needs)
     (λ ballot-from-requires κs. search needs)
     returns)

@@ -1,5 +1,5 @@
 -- `on_image::play::play`: bytes that are no image first, then the event. Assumes nothing.
-use mathlib.Core.Path.{_≡_, refl, sym, ap, _∙_}
+use mathlib.Core.Path.{sym, _∙_}
 use denote.Ref.{now}
 use Rattle.event.specs.Meant.{meant}
 use Rattle.on_image.proofs.Laws.{no-image-first, on-image}

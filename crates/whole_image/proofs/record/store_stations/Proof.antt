@@ -1,5 +1,5 @@
 -- `whole_image::record::store_stations`: the first three bytes, then entry by entry; the measure is what is left of them. Assumes nothing.
-use Prim.Native.Nat.{_+_, _≤_, _<_, _-_}
+use Prim.Native.Nat.{_≤_, _-_}
 use mathlib.Core.Path.{_≡_}
 use native.Mathlib.Omega.{arith}
 use lib.ListN.{length, set, length-set}
@@ -7,10 +7,7 @@ use denote.Ref.{now}
 use borrow.Author.Needs.{needs}
 use Rattle.basics.proofs.Lists.{unmapped-length}
 use Rattle.entry.specs.Entries.{station-entries, ballot-entries}
-use Rattle.settlement.specs.Record.{entry}
-use Rattle.image.specs.Entries.{station-bytes}
 use Rattle.image.specs.Image.{version, station-at, image-bytes, image-of}
-use Rattle.image.proofs.Entries.{station-wide}
 use Rattle.image.proofs.Image.{image-long, station-bytes-at}
 use Rattle.whole_image.proofs.Partly.{Stored, stored-front, stored-more, three-set}
 use Rattle.whole_image.proofs.record.store_stations.Statement.{statement}
@@ -38,19 +35,10 @@ loop-again c =
     let start = c .before .before .before .before .before .before .before .before in
     let turn = c .before .before .before .before .before .before in
     let r = start .args .t2 in
-    let s = turn .loop .s in
-    let t = entry r s in
-    let inside : s < station-entries = omega arith in
     let stations : length (r .stations) ≡ station-entries = search (unmapped-length, needs) in
     let ballots : length (r .ballots) ≡ ballot-entries = search (unmapped-length, needs) in
-    let long = image-long r stations ballots in
-    let wide = station-wide t in
-    let place : station-at s + length (station-bytes t) ≡ station-at (s + 1) = omega arith in (
-      omega arith,
-      turn .loop .inv .1,
-      stored-more (image-of r) _ image-bytes long (turn .loop .inv .1) (station-at s) (station-at (s + 1)) (station-bytes t) _ (turn .loop .image) _ place
-          (omega arith) (station-bytes-at r stations ballots s inside) (turn .loop .inv .2) (c .before .before .write-station .ensures),
-    )
+    let there = station-bytes-at r stations ballots (turn .loop .s) (omega arith) in
+    (omega arith, turn .loop .inv .1, stored-more (image-of r) _ image-bytes (image-long r stations ballots) (turn .loop .inv .1) there (turn .loop .inv .2) (c .before .before .write-station .ensures))
 
 returns : tie.Need-returns Inv-loop μ-loop
 returns c =

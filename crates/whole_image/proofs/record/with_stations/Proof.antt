@@ -11,7 +11,7 @@ use Rattle.entry.specs.Entries.{station-entries, blank-station}
 use Rattle.image.specs.Entries.{station-from}
 use Rattle.image.specs.Image.{station-at, stations-in, record-in}
 use Rattle.image.proofs.Image.{entry-in}
-use Rattle.image.proofs.Lists.{length-cut}
+use Rattle.image.proofs.Lists.{length-each}
 use Rattle.whole_image.proofs.Partly.{partly, partly-all, partly-set}
 use Rattle.whole_image.proofs.record.with_stations.Statement.{statement}
 use Rattle.whole_image.proofs.record.with_stations.Tie as tie
@@ -41,7 +41,7 @@ loop-again c =
     let l : length stations ≡ station-entries = search (unmapped-length, needs) in
     let read : c .station-from .result ≡ getD (stations-in image) s blank-station =
     c .station-from .ensures ∙ ap station-from (to-end (station-at s) image) ∙ sym (entry-in image s inside) in
-    (omega arith, rw (c .before .before .before .loop .inv .1, read, partly-set (stations-in image) stations s blank-station (rw length-cut inside) (rw l inside)))
+    (omega arith, rw (c .before .before .before .loop .inv .1, read, partly-set (stations-in image) stations s blank-station (rw length-each inside) (rw l inside)))
 
 returns : tie.Need-returns Inv-loop μ-loop
 returns c =
@@ -51,7 +51,7 @@ returns c =
     let s = c .before .loop .s in
     let e : s ≡ station-entries = omega arith in
     let l : length stations ≡ station-entries = search (unmapped-length, needs) in
-    rw (c .before .loop .inv .1, e, partly-all (stations-in image) stations station-entries (rw length-cut (omega arith)) (rw l (omega arith)))
+    rw (c .before .loop .inv .1, e, partly-all (stations-in image) stations station-entries (rw length-each (omega arith)) (rw l (omega arith)))
 
 pub with-stations-spec : {M : Type 1} → statement M
 with-stations-spec =
