@@ -11,10 +11,10 @@ use Rattle.image.specs.Examples.{Bytes-shown}
 pub bytes-shown : Bytes-shown
 unfolding any-below first-met outcome opened flat each stage-from station-bytes station-from voters-bytes marks-bytes ballot-from image-of record-in unread no-image
 bytes-shown = record {
-  station = refl;
-  station-read = refl;
-  stages = refl;
-  stages-read = refl;
+  lost = refl;
+  live = refl;
+  lost-read = refl;
+  live-read = refl;
   voters = refl;
   marks = refl;
   ballots-read = refl;

@@ -1,9 +1,8 @@
 -- An image and its record, both ways: entries are found and replaced at their places. Assumes nothing.
 use Prim.Native.Nat.{ℕ, suc, _+_, _*_, _<_}
 use mathlib.Core.Path.{_≡_, refl, sym, subst, ap, _∙_}
-use mathlib.Core.Bool.{Bool, true, false, not, true≢false}
+use mathlib.Core.Bool.{Bool, true, false, not}
 use mathlib.Core.List.{List, [], _∷_, _++_, append-nil, append-assoc}
-use mathlib.Core.Option.{Option, some, none}
 use native.Mathlib.Omega.{arith}
 use native.Mathlib.Numerals.{add-one}
 use borrow.Author.Tests.{eqb-true, ne-eqb}
@@ -14,7 +13,7 @@ use Rattle.basics.specs.Bytes.{byte, four-from, In-bytes, over}
 use Rattle.basics.specs.Below.{any-below}
 use Rattle.basics.specs.Tests.{refuse, first-met}
 use Rattle.basics.proofs.Below.{any-none, none-below}
-use Rattle.basics.proofs.Bools.{by-bool, or-false, not-false→true}
+use Rattle.basics.proofs.Bools.{or-false, not-false→true}
 use Rattle.basics.proofs.Bytes.{bytes-after}
 use Rattle.basics.proofs.Refusals.{refused-not}
 use Rattle.entry.specs.declared.entry.Station.{Station}
@@ -24,7 +23,7 @@ use Rattle.settlement.specs.declared.record.Settlement.{Settlement}
 use Rattle.settlement.specs.Record.{entry, ballot, with-station, with-ballot}
 use Rattle.image.specs.Lists.{flat, each}
 use Rattle.image.specs.Entries.{station-bytes, station-from, voters-bytes, marks-bytes, ballot-from, no-mark, station-unread}
-use Rattle.image.specs.Image.{station-at, voters-at, marks-at, image-of, station-read, ballot-read, record-in, unread, no-image, record-of, Station-fits, Ballot-fits, Record-fits, Round-trip, Numbers-told}
+use Rattle.image.specs.Image.{station-at, voters-at, marks-at, image-of, station-read, ballot-read, record-in, unread, no-image, Station-fits, Ballot-fits, Record-fits, Round-trip, Places-told, Numbers-told}
 use Rattle.image.proofs.Lists.{Between, first-bytes, length-each, getD-each, each-again, length-flat, laid-set, laid-at, flat-each}
 use Rattle.image.proofs.Entries.{station-wide, station-again, station-there, station-reads, voters-wide, marks-wide, marks-read, ballot-again, voters-there, marks-there}
 
@@ -58,13 +57,13 @@ module _ (b : List ℕ) where
   unfolding record-in
   ballot-in k h = getD-each 64 (ballot-read b) k blank-ballot h
 
-  pub stations-in : length (record-in b .stations) ≡ 32
+  pub stations-long : length (record-in b .stations) ≡ 32
   unfolding record-in
-  stations-in = length-each 32 (station-read b)
+  stations-long = length-each 32 (station-read b)
 
-  pub ballots-in : length (record-in b .ballots) ≡ 64
+  pub ballots-long : length (record-in b .ballots) ≡ 64
   unfolding record-in
-  ballots-in = length-each 64 (ballot-read b)
+  ballots-long = length-each 64 (ballot-read b)
 
   -- two parts that meet
   meeting : (m n p : ℕ) → take m (drop p b) ++ take n (drop (p + m) b) ≡ take (m + n) (drop p b)
@@ -242,14 +241,6 @@ module _ (r : Settlement) (fits : Record-fits r) where
   unfolding record-in
   record-again = rw (head-again .0, head-again .1, stations-again, ballots-again)
 
-abbrev is-some : Option Settlement → Bool
-is-some none = false
-is-some (some r) = true
-
-abbrev or-else : Settlement → Option Settlement → Settlement
-or-else d none = d
-or-else d (some r) = r
-
 -- the numbers that bytes make fit
 four-fits : (b : List ℕ) (i : ℕ) → In-bytes b → four-from b i < 4294967296
 four-fits b i h = omega (arith, h i, h (i + 1), h (i + 2), h (i + 3))
@@ -272,41 +263,24 @@ record-fits b h =
     record {
       count = head-fits b h .0;
       rule = head-fits b h .1;
-      station-entries = stations-in b;
-      ballot-entries = ballots-in b;
+      station-entries = stations-long b;
+      ballot-entries = ballots-long b;
       stations = λ s l. subst Station-fits (sym (entry-in b s l)) (station-fits (drop (station-at s) b) (bytes-after (station-at s) b h));
       ballots = λ k l. subst Ballot-fits (sym (ballot-in b k l)) (ballot-fits (drop (voters-at k) b) (drop (marks-at k) b) (bytes-after (voters-at k) b h));
     }
 
--- bytes with a record are an image of it
-of-bytes : (b : List ℕ) (r : Settlement) → In-bytes b → record-of b ≡ some r → image-of r ≡ b
-unfolding record-of
-of-bytes b r in-bytes e = by-bool (eqb (no-image b) 0) yes no
-  where
-    yes : eqb (no-image b) 0 ≡ true → image-of r ≡ b
-    yes p = sym (ap (λ (o : Option Settlement). image-of (or-else r o)) (rw p at e)) ∙ image-again b (is-image b (eqb-true _ _ p)) in-bytes
-
-    no : eqb (no-image b) 0 ≡ false → image-of r ≡ b
-    no p = absurd (true≢false (sym (ap is-some (rw p at e))))
-
-fits : (b : List ℕ) (r : Settlement) → In-bytes b → record-of b ≡ some r → Record-fits r
-unfolding record-of
-fits b r in-bytes e = by-bool (eqb (no-image b) 0) yes no
-  where
-    yes : eqb (no-image b) 0 ≡ true → Record-fits r
-    yes p = subst Record-fits (ap (or-else r) (rw p at e)) (record-fits b in-bytes)
-
-    no : eqb (no-image b) 0 ≡ false → Record-fits r
-    no p = absurd (true≢false (sym (ap is-some (rw p at e))))
-
 pub round-trip : Round-trip
-unfolding record-of
 round-trip = record {
-  of-record = λ r fits. rw (an-image r (fits .station-entries) (fits .ballot-entries), record-again r fits);
-  of-bytes = of-bytes;
-  fits = fits;
+  an-image = λ r fits. an-image r (fits .station-entries) (fits .ballot-entries);
   one-length = λ r fits. image-long r (fits .station-entries) (fits .ballot-entries);
+  of-record = record-again;
+  of-bytes = λ b in-bytes e. image-again b (is-image b e) in-bytes;
+  fits = record-fits;
 }
+
+pub places-told : (b : List ℕ) → Places-told b
+unfolding record-in
+places-told b = record { count = refl; rule = refl; station = entry-in b; ballot = ballot-in b }
 
 -- ---- which number
 

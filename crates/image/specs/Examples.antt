@@ -1,10 +1,9 @@
 -- Images byte by byte, in literal numbers, so that a definition that changes together with its code is noticed here. Assumes nothing.
 use Prim.Native.Nat.{ℕ}
 use mathlib.Core.Path.{_≡_}
-use mathlib.Core.Bool.{true, false}
+use mathlib.Core.Bool.{Bool, true, false}
 use mathlib.Core.List.{List, [], _∷_, _++_, map}
 use lib.ListN.{replicate, set}
-use Rattle.basics.specs.Bytes.{byte}
 use Rattle.entry.specs.declared.entry.Stage.{Stage}
 use Rattle.entry.specs.declared.entry.Stage.the-variants.{Idle, Waiting, Voting, Awaiting, Seeking, FinishVoting, FinishAwaiting, Decided}
 use Rattle.entry.specs.declared.entry.Station.{Station}
@@ -14,12 +13,19 @@ use Rattle.settlement.specs.Events.{opened}
 use Rattle.image.specs.Entries.{station-bytes, station-from, voters-bytes, marks-bytes, ballot-from}
 use Rattle.image.specs.Image.{image-of, record-in, no-image}
 
--- a station with eight different values, at any stage
-abbrev pub some-station : Stage → Station
-some-station g =
+-- the stages in document 01's order, voting and awaiting on a finish ballot before decided; and the byte of each
+abbrev pub all-stages : List Stage
+all-stages = Idle ∷ Waiting ∷ Voting ∷ Awaiting ∷ Seeking ∷ FinishVoting ∷ FinishAwaiting ∷ Decided ∷ []
+
+abbrev pub stage-bytes : List ℕ
+stage-bytes = 0 ∷ 1 ∷ 2 ∷ 3 ∷ 4 ∷ 5 ∷ 6 ∷ 7 ∷ []
+
+-- a station with different numbers, lost or live, at any stage
+abbrev pub some-station : Bool → Stage → Station
+some-station lost g =
     record {
       stage = g;
-      lost = true;
+      lost = lost;
       cursor = 7;
       round = 9;
       held = 0x01020304;
@@ -28,34 +34,34 @@ some-station g =
       decision = 0x0d0e0f10;
     }
 
-abbrev pub some-bytes : ℕ → List ℕ
-some-bytes stage = stage ∷ 1 ∷ 7 ∷ 9 ∷ 1 ∷ 2 ∷ 3 ∷ 4 ∷ 5 ∷ 6 ∷ 7 ∷ 8 ∷ 9 ∷ 10 ∷ 11 ∷ 12 ∷ 13 ∷ 14 ∷ 15 ∷ 16 ∷ []
+abbrev pub some-bytes : ℕ → ℕ → List ℕ
+some-bytes lost stage =
+    stage ∷ lost ∷ 7 ∷ 9 ∷ 1 ∷ 2 ∷ 3 ∷ 4 ∷ 5 ∷ 6 ∷ 7 ∷ 8 ∷ 9 ∷ 10 ∷ 11 ∷ 12 ∷ 13 ∷ 14 ∷ 15 ∷ 16 ∷ []
 
--- two ballots with different values
+-- a ballot in which two sets of stations voted, answered or not
+abbrev pub some-ballot : Bool → Bool → Ballot
+some-ballot answered answer = record { cast0 = 0x01020304; cast1 = 0x05060708; answered = answered; answer = answer }
+
 abbrev pub some-ballots : List Ballot
-some-ballots =
-    record { cast0 = 0x01020304; cast1 = 0x05060708; answered = true; answer = false }
-    ∷ record { cast0 = 0x090a0b0c; cast1 = 0x0d0e0f10; answered = false; answer = true } ∷ []
+some-ballots = some-ballot false false ∷ some-ballot false true ∷ some-ballot true false ∷ some-ballot true true ∷ []
+
+abbrev pub some-marks : List (List ℕ)
+some-marks = (0 ∷ 0 ∷ []) ∷ (0 ∷ 1 ∷ []) ∷ (1 ∷ 0 ∷ []) ∷ (1 ∷ 1 ∷ []) ∷ []
 
 -- 1,283 bytes of version 3, all else 0 but for the byte at a place
 abbrev pub but-for : ℕ → ℕ → List ℕ
 but-for place x = set (3 ∷ replicate 1282 0) place x
 
 pub record Bytes-shown : Type 0 where
-  -- stage, lost, cursor, round; held, claim, word, decision; both ways, whatever follows
-  pub station : station-bytes (some-station Seeking) ≡ some-bytes 4
-  pub station-read : station-from (some-bytes 4 ++ (99 ∷ [])) ≡ some-station Seeking
-  -- the stages in document 01's order; voting and awaiting on a finish ballot before decided
-  pub stages : map (λ (g : Stage). byte (station-bytes (some-station g)) 0) (Idle ∷ Waiting ∷ Voting ∷ Awaiting ∷ Seeking ∷ FinishVoting ∷ FinishAwaiting ∷ Decided ∷ [])
-      ≡ 0 ∷ 1 ∷ 2 ∷ 3 ∷ 4 ∷ 5 ∷ 6 ∷ 7 ∷ []
-  pub stages-read : map (λ (x : ℕ). station-from (some-bytes x) .stage) (0 ∷ 1 ∷ 2 ∷ 3 ∷ 4 ∷ 5 ∷ 6 ∷ 7 ∷ [])
-      ≡ Idle ∷ Waiting ∷ Voting ∷ Awaiting ∷ Seeking ∷ FinishVoting ∷ FinishAwaiting ∷ Decided ∷ []
-  -- the stations that cast 0 and 1; answered, the answer; both ways, whatever follows
-  pub voters : map voters-bytes some-ballots ≡ (1 ∷ 2 ∷ 3 ∷ 4 ∷ 5 ∷ 6 ∷ 7 ∷ 8 ∷ []) ∷ (9 ∷ 10 ∷ 11 ∷ 12 ∷ 13 ∷ 14 ∷ 15 ∷ 16 ∷ []) ∷ []
-  pub marks : map marks-bytes some-ballots ≡ (1 ∷ 0 ∷ []) ∷ (0 ∷ 1 ∷ []) ∷ []
-  pub ballots-read : ballot-from (1 ∷ 2 ∷ 3 ∷ 4 ∷ 5 ∷ 6 ∷ 7 ∷ 8 ∷ 9 ∷ []) (1 ∷ 0 ∷ 9 ∷ [])
-      ∷ ballot-from (9 ∷ 10 ∷ 11 ∷ 12 ∷ 13 ∷ 14 ∷ 15 ∷ 16 ∷ 9 ∷ []) (0 ∷ 1 ∷ 9 ∷ []) ∷ []
-      ≡ some-ballots
+  -- stage, lost, cursor, round; held, claim, word, decision: lost and live, at every stage; both ways, whatever follows
+  pub lost : map (λ (g : Stage). station-bytes (some-station true g)) all-stages ≡ map (some-bytes 1) stage-bytes
+  pub live : map (λ (g : Stage). station-bytes (some-station false g)) all-stages ≡ map (some-bytes 0) stage-bytes
+  pub lost-read : map (λ (x : ℕ). station-from (some-bytes 1 x ++ (99 ∷ []))) stage-bytes ≡ map (some-station true) all-stages
+  pub live-read : map (λ (x : ℕ). station-from (some-bytes 0 x ++ (99 ∷ []))) stage-bytes ≡ map (some-station false) all-stages
+  -- the stations that cast 0 and 1; answered, the answer: the four ways that the marks can be; both ways, whatever follows
+  pub voters : map voters-bytes some-ballots ≡ replicate 4 (1 ∷ 2 ∷ 3 ∷ 4 ∷ 5 ∷ 6 ∷ 7 ∷ 8 ∷ [])
+  pub marks : map marks-bytes some-ballots ≡ some-marks
+  pub ballots-read : map (λ (m : List ℕ). ballot-from (1 ∷ 2 ∷ 3 ∷ 4 ∷ 5 ∷ 6 ∷ 7 ∷ 8 ∷ 9 ∷ []) (m ++ (9 ∷ []))) some-marks ≡ some-ballots
   -- the version, n, the rule, and 1,280 bytes more
   pub an-opening : image-of (opened 7 2 .settlement) ≡ 3 ∷ 7 ∷ 2 ∷ replicate 1280 0
   -- the last station's first byte, the first and the last byte of who voted and of the marks, each read there
@@ -80,7 +86,7 @@ pub record Bytes-shown : Type 0 where
   pub last-lost : no-image (but-for 624 2) ≡ 42
   pub first-mark : no-image (but-for 1155 2) ≡ 42
   pub last-mark : no-image (but-for 1282 2) ≡ 42
-  -- and each other byte may be any
+  -- stages and marks that exist, and any number, are fine
   pub a-stage : no-image (but-for 623 7) ≡ 0
   pub a-mark : no-image (but-for 624 1) ≡ 0
   pub an-answer : no-image (but-for 1282 1) ≡ 0

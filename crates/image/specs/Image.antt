@@ -3,7 +3,6 @@ use Prim.Native.Nat.{ℕ, _+_, _*_, _<_}
 use mathlib.Core.Path.{_≡_}
 use mathlib.Core.Bool.{Bool, not, cond, _||_}
 use mathlib.Core.List.{List, [], _∷_, _++_}
-use mathlib.Core.Option.{Option, none, some}
 use lib.Dec.{eqb}
 use lib.ListN.{length, drop, getD}
 use Rattle.basics.specs.Bytes.{byte, In-bytes}
@@ -86,9 +85,6 @@ image-tests b =
 unfoldable pub no-image : List ℕ → ℕ
 no-image b = first-met (image-tests b)
 
-unfoldable pub record-of : List ℕ → Option Settlement
-record-of b = cond (eqb (no-image b) 0) (some (record-in b)) none
-
 -- the number of an operation on an image: what the bytes are if they are none, else what the operation says
 abbrev pub image-first : List ℕ → ℕ → ℕ
 image-first b number = cond (eqb (no-image b) 0) number (no-image b)
@@ -121,14 +117,21 @@ pub record Record-fits (r : Settlement) : Type 0 where
   pub ballots : (b : ℕ) → b < 64 → Ballot-fits (getD (r .ballots) b blank-ballot)
 
 pub record Round-trip : Type 0 where
-  -- every record comes back from its image
-  pub of-record : (r : Settlement) → Record-fits r → record-of (image-of r) ≡ some r
-  -- and bytes that are an image are that of their record, so that no two images are of one record
-  pub of-bytes : (b : List ℕ) (r : Settlement) → In-bytes b → record-of b ≡ some r → image-of r ≡ b
-  -- the records that bytes have are those whose numbers fit
-  pub fits : (b : List ℕ) (r : Settlement) → In-bytes b → record-of b ≡ some r → Record-fits r
-  -- an image is of one length
+  -- every record has an image, of one length, and comes back from it
+  pub an-image : (r : Settlement) → Record-fits r → no-image (image-of r) ≡ 0
   pub one-length : (r : Settlement) → Record-fits r → length (image-of r) ≡ 1283
+  pub of-record : (r : Settlement) → Record-fits r → record-in (image-of r) ≡ r
+  -- and bytes that are an image are that of their record, so that no two images are of one record
+  pub of-bytes : (b : List ℕ) → In-bytes b → no-image b ≡ 0 → image-of (record-in b) ≡ b
+  -- the records that bytes have are those whose numbers fit
+  pub fits : (b : List ℕ) → In-bytes b → Record-fits (record-in b)
+
+-- what stands where, in numbers, in any bytes
+pub record Places-told (b : List ℕ) : Type 0 where
+  pub count : record-in b .count ≡ byte b 1
+  pub rule : record-in b .rule ≡ byte b 2
+  pub station : (s : ℕ) → s < 32 → getD (record-in b .stations) s blank-station ≡ station-from (drop (3 + 20 * s) b)
+  pub ballot : (k : ℕ) → k < 64 → getD (record-in b .ballots) k blank-ballot ≡ ballot-from (drop (643 + 8 * k) b) (drop (1155 + 2 * k) b)
 
 -- bytes that are no image: another length is 80, another version 81, and all else 42
 pub record Numbers-told : Type 0 where

@@ -17,7 +17,7 @@ use Rattle.settlement.specs.Events.{played}
 use Rattle.settlement.specs.Fault.{station-fault, fault-at}
 use Rattle.image.specs.Entries.{stage-from, station-from, station-bytes, voters-bytes, marks-bytes}
 use Rattle.image.specs.Image.{station-at, voters-at, marks-at, image-of, record-in, no-image}
-use Rattle.image.proofs.Image.{is-image, entry-in, stations-in, ballots-in, image-again, station-stored, ballot-stored}
+use Rattle.image.proofs.Image.{is-image, entry-in, stations-long, ballots-long, image-again, station-stored, ballot-stored}
 use Rattle.on_image.specs.Events.{image-number, image-after}
 
 pub two-stored : (b : List ℕ) → no-image b ≡ 0 → In-bytes b → (i : ℕ) (t : Station) (k : ℕ) (u : Ballot) → i < 32 → k < 64
@@ -26,8 +26,8 @@ two-stored b an in-bytes i t k u hi hk =
     let r = record-in b in
     let whole : image-of r ≡ b = image-again b (is-image b an) in-bytes in
     let first : image-of (with-station i t r) ≡ over (station-at i) (station-bytes t) b =
-    station-stored r (stations-in b) i t hi ∙ ap (λ (l : List ℕ). over (station-at i) (station-bytes t) l) whole in
-    sym (ballot-stored (with-station i t r) (length-set (r .stations) i t ∙ stations-in b) (ballots-in b) k u hk
+    station-stored r (stations-long b) i t hi ∙ ap (λ (l : List ℕ). over (station-at i) (station-bytes t) l) whole in
+    sym (ballot-stored (with-station i t r) (length-set (r .stations) i t ∙ stations-long b) (ballots-long b) k u hk
     ∙ ap (λ (l : List ℕ). over (marks-at k) (marks-bytes u) (over (voters-at k) (voters-bytes u) l)) first)
 
 -- what the record test asks of a station stands in three of its bytes
