@@ -118,4 +118,4 @@ none b n = record {
 }
 
 pub image-lists : Image-lists
-image-lists = record { none = none; holds = holds; numbers = same-number; leaves = same-image; stands = stands }
+image-lists = record { none = none; holds = holds; numbers = same-number; leaves = same-image; looks = same-look; stands = stands }

@@ -6,7 +6,7 @@ use mathlib.Core.Logic.{⊎-elim}
 use mathlib.Core.List.{List, _++_, append-assoc}
 use native.Mathlib.Nat.{lt-of-lt-of-le, zero-add, add-zero, mul-suc, eq-or-lt-of-le, le-of-suc-le-suc, not-suc-le-zero}
 use native.Mathlib.Omega.{arith}
-use borrow.Author.Tests.{eqb-true, eqb-false, ne-eqb, lt-ltb, ltb-true, ltb-false}
+use borrow.Author.Tests.{eqb-true, eqb-false, ne-eqb, lt-ltb, le-ltb, ltb-true, ltb-false}
 use lib.Dec.{eqb, ltb}
 use lib.ListN.{length, take, drop, length-append}
 use lib.Seq.{sets, sets-eq, take-at, drop-at}
@@ -105,6 +105,16 @@ tested-0 b x e =
     let later = refused-not (fault (record-in b)) 42 x refl (both .1) in
     (both .0, later .0, later .1)
 
+-- what comes after them is asked only where both pass
+tested-then : (b : List ℕ) (x : ℕ) → tested-first b 0 ≡ 0 → tested-first b x ≡ x
+tested-then b x z = let passed = tested-0 b 0 z in rw (passed .0, passed .1)
+
+tested-refused : (b : List ℕ) (x : ℕ) → (tested-first b 0 ≡ 0 → ⊥) → tested-first b x ≡ tested-first b 0
+tested-refused b x n =
+    by-bool (eqb (no-image b) 0)
+    (λ p. by-bool (fault (record-in b)) (λ f. rw (p, f)) (λ f. absurd (n (rw (p, f)))))
+    (λ p. rw p)
+
 not-30 : (b : List ℕ) → no-image b ≡ 30 → ⊥
 unfolding no-image first-met
 not-30 b e = three (other-length b) (not (eqb (byte b 0) version)) (unread b) e
@@ -186,12 +196,24 @@ unfolding all-after
 each b out z s h =
     rw (z, image-shown b s (room b out z .an-image)) (piece (looked (record-in b)) (record-in b .count) s h _)
 
+stays : (b out : List ℕ) → all-number b out ≡ 0 → drop (8 * record-in b .count) (all-after b out) ≡ drop (8 * record-in b .count) out
+unfolding all-after
+stays b out z =
+    let all = standings (looked (record-in b)) (record-in b .count) in
+    let long = standings-long (looked (record-in b)) (record-in b .count) in
+    rw z (drop-at all _ (8 * record-in b .count) long ∙ ap (λ (n : ℕ). drop n out) (zero-add (length all) ∙ long))
+
 pub looks : Looks
-looks = record {
-  enough = enough;
-  each = each;
-  count = λ b out z. sym (all-written b out z .0);
-  refused = λ b out n. (sym (all-refused b out n .0), sym (all-refused b out n .1));
+unfolding all-number
+looks b out = record {
+  refused-first = λ n. tested-refused b _ n;
+  no-room = λ z l. tested-then b _ z ∙ ap (λ (c : Bool). refuse c 30 0) (lt-ltb (length out) (8 * record-in b .count) l);
+  accepted = λ z l. tested-then b _ z ∙ ap (λ (c : Bool). refuse c 30 0) (le-ltb (length out) (8 * record-in b .count) l);
+  enough = enough b out;
+  count = λ z. sym (all-written b out z .0);
+  each = each b out;
+  stays = stays b out;
+  refused = λ n. (sym (all-refused b out n .0), sym (all-refused b out n .1));
 }
 
 -- ---- the word read again

@@ -46,8 +46,10 @@ pub record No-image (b : List ℕ) : Type 0 where
 pub record Image-lists : Type 0 where
   pub none : (b : List ℕ) → (no-image b ≡ 0 → ⊥) → No-image b
   pub holds : (o : Opening) → Openable o → (h : History) → Claims-fit h → Demand3-on-image o h
-  -- on the image of any record whose numbers fit, made-up ones included: an event has the record's number, and leaves the image of the record after it
+  -- on the image of any record whose numbers fit, made-up ones included: an event has the record's number, and leaves the image of the record after it;
+  -- LOOK answers what it answers of the record
   pub numbers : (r : Settlement) → Record-fits r → (e : Event) → image-number (image-of r) e ≡ played r e .number
   pub leaves : (r : Settlement) → Record-fits r → (e : Event) → image-after (image-of r) e ≡ image-of (played r e .settlement)
+  pub looks : (r : Settlement) → Record-fits r → (s : ℕ) → looked-on (image-of r) s ≡ looked r s
   -- some bytes stand there after every list
   pub stands : (o : Opening) → Openable o → (h : History) → Claims-fit h → Stands o h (image-of (record-after o h))

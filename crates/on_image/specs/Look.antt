@@ -43,15 +43,28 @@ all-after b out = cond (eqb (all-number b out) 0) (over 0 (standings (looked (re
 unfoldable pub all-answer : List ℕ → List ℕ → ℕ
 all-answer b out = 65536 * all-number b out + cond (eqb (all-number b out) 0) (8 * record-in b .count) 0
 
-pub record Looks : Type 0 where
-  -- 256 bytes are always enough
-  pub enough : (b out : List ℕ) → 256 ≤ length out → all-number b out ≡ 30 → ⊥
-  -- the eight bytes of each station are LOOK's answer
-  pub each : (b out : List ℕ) → all-number b out ≡ 0 → (s : ℕ) → s < record-in b .count
-      → take 8 (drop (8 * s) (all-after b out)) ≡ standing-bytes (looked-on b s)
-  -- accepted, the bytes of all stations are counted; refused, the number is answered alone, and every byte stays
-  pub count : (b out : List ℕ) → all-number b out ≡ 0 → all-answer b out ≡ 8 * record-in b .count
-  pub refused : (b out : List ℕ) → (all-number b out ≡ 0 → ⊥) → (all-answer b out ≡ 65536 * all-number b out) × (all-after b out ≡ out)
+module _ (b out : List ℕ) where
+  -- the bytes of all its stations
+  abbrev pub all-bytes : ℕ
+  all-bytes = 8 * record-in b .count
+
+  pub record Looks-of : Type 0 where
+    -- the number is that of the bytes and of the record; where that is 0, 30 for less room than eight bytes a station
+    pub refused-first : (tested-first b 0 ≡ 0 → ⊥) → all-number b out ≡ tested-first b 0
+    pub no-room : tested-first b 0 ≡ 0 → length out < all-bytes → all-number b out ≡ 30
+    pub accepted : tested-first b 0 ≡ 0 → all-bytes ≤ length out → all-number b out ≡ 0
+    -- 256 bytes are always enough
+    pub enough : 256 ≤ length out → all-number b out ≡ 30 → ⊥
+    -- accepted: the bytes of all stations are counted, each station's are LOOK's answer, and the others stay
+    pub count : all-number b out ≡ 0 → all-answer b out ≡ all-bytes
+    pub each : all-number b out ≡ 0 → (s : ℕ) → s < record-in b .count → take 8 (drop (8 * s) (all-after b out)) ≡ standing-bytes (looked-on b s)
+    pub stays : all-number b out ≡ 0 → drop all-bytes (all-after b out) ≡ drop all-bytes out
+    -- refused: the number alone, and every byte stays
+    pub refused : (all-number b out ≡ 0 → ⊥) → (all-answer b out ≡ 65536 * all-number b out) × (all-after b out ≡ out)
+
+-- any bytes, any buffer
+abbrev pub Looks : Type 0
+Looks = (b out : List ℕ) → Looks-of b out
 
 -- an answer whose numbers fit is read off its word
 pub record Word-again : Type 0 where
