@@ -9,7 +9,6 @@ use lib.ListN.{length}
 use Rattle.basics.specs.Below.{any-below}
 use Rattle.basics.specs.Bytes.{In-bytes}
 use Rattle.consensus.specs.Events.{History, start, Opening, Openable}
-use Rattle.settlement.specs.declared.record.Settlement.{Settlement}
 use Rattle.settlement.specs.Fault.{fault}
 use Rattle.settlement.specs.Events.{blank, opened}
 use Rattle.settlement.specs.Link.{rule-number}
@@ -17,41 +16,26 @@ use Rattle.settlement.proofs.Link.Demands.{demands}
 use Rattle.log.specs.Run.{ran}
 use Rattle.log.specs.Demand.{Unopened, Played}
 use Rattle.log.proofs.Played.{log-demand}
-use Rattle.report.specs.Text.{text}
 use Rattle.report.specs.Report.{text-of}
 use Rattle.image.specs.Image.{image-of, Record-fits}
-use Rattle.image.proofs.Image.{an-image, record-again}
 use Rattle.image.proofs.Fits.{fresh-fits, after-fits}
 use Rattle.on_image.specs.Lists.{Stands}
 use Rattle.on_image.proofs.Lists.{image-lists}
-use Rattle.whole_image.specs.Whole.{stored-number, stored, report-number, image-text}
+use Rattle.whole_image.specs.Whole.{stored-number, stored, image-text}
 use Rattle.whole_image.specs.Lists.{Whole-lists}
+use Rattle.whole_image.proofs.Laws.{stored-there, reported}
 
 module _ (b : List ℕ) (size : length b ≡ 1283) where
-  whole-stored : (r : Settlement) → stored b r ≡ image-of r
-  unfolding stored
-  whole-stored r = rw size
-
-  whole-number : (k : ℕ) → stored-number b k ≡ k
-  unfolding stored-number
-  whole-number k = rw size
-
   opens : (o : Opening) → Openable o
       → (stored-number b (opened (o .count) (rule-number (o .rule)) .number) ≡ 0)
       × Stands o start (stored b (opened (o .count) (rule-number (o .rule)) .settlement))
-  opens o a = (whole-number _ ∙ demands .opens o a, whole-stored _)
+  opens o a = let there = stored-there b _ _ size in (there .1 ∙ demands .opens o a, there .0)
 
   plays : (log : List ℕ) (limit : ℕ) (o : Opening) (h : History) → Played log limit (ran log limit) o h → Stands o h (stored b (ran log limit .settlement))
   plays log limit o h p =
-      subst (Stands o h) (sym (whole-stored (ran log limit .settlement) ∙ ap image-of (p .settlement))) (image-lists .stands o (p .openable) h (p .fits))
+      subst (Stands o h) (sym (stored-there b (ran log limit .settlement) 0 size .0 ∙ ap image-of (p .settlement))) (image-lists .stands o (p .openable) h (p .fits))
 
 -- ---- the report
-
--- a record whose numbers fit and that passes the record test is reported from its image
-reported : (r : Settlement) → Record-fits r → fault r ≡ false → (events taken status : ℕ) → image-text (image-of r) events taken status ≡ text r events taken status
-unfolding image-text report-number
-reported r fits passes events taken status =
-    rw (record-again r fits, an-image r (fits .station-entries) (fits .ballot-entries), passes)
 
 blank-passes : fault blank ≡ false
 unfolding fault any-below
