@@ -11,7 +11,7 @@ pub const VERSION: u8 = 3;
 /// Where the entries begin, and the bytes of one: stations, who voted in each ballot, and each ballot's marks.
 pub const STATIONS: usize = 3;
 pub const STATION: usize = 20;
-pub const BALLOTS: usize = 643;
+pub const VOTERS: usize = 643;
 pub const BALLOT_VOTERS: usize = 8;
 pub const MARKS: usize = 1155;
 pub const BALLOT_MARKS: usize = 2;
@@ -48,8 +48,8 @@ pub fn decode(bytes: &[u8]) -> Result<Record, u8> {
     if bytes[0] != VERSION {
         return Err(OTHER_VERSION);
     }
-    let stations: Option<Vec<Station>> = bytes[STATIONS..BALLOTS].chunks(STATION).map(read_station).collect();
-    let voters = bytes[BALLOTS..MARKS].chunks(BALLOT_VOTERS);
+    let stations: Option<Vec<Station>> = bytes[STATIONS..VOTERS].chunks(STATION).map(read_station).collect();
+    let voters = bytes[VOTERS..MARKS].chunks(BALLOT_VOTERS);
     let ballots: Option<Vec<Ballot>> = voters.zip(bytes[MARKS..].chunks(BALLOT_MARKS)).map(read_ballot).collect();
     Ok(Record {
         n: bytes[1],

@@ -33,9 +33,11 @@ pub const LEAST: usize = 1000;
 const NO_SUCH_BYTE: &str = "a stage or a mark that does not exist";
 const LAST_BALLOT: &str = "taking answer 0 from ballot 63";
 
-/// What is in a buffer before RUN or OPEN writes an image there.
-fn junk(size: usize) -> Vec<u8> {
-    (0..size).map(|i| (i * 91 + 5) as u8).collect()
+/// What may be in a buffer before RUN writes an image there: no image, or, where it is long enough for one, the image of two stations.
+fn stood(size: usize) -> [Vec<u8>; 2] {
+    let junk: Vec<u8> = (0..size).map(|i| (i * 91 + 5) as u8).collect();
+    let image = image::open(&junk, 2, 1).1;
+    [junk, image]
 }
 
 pub struct ImageJudge<'a> {
@@ -213,13 +215,18 @@ impl<'a> ImageJudge<'a> {
         lent.holds("the image that was reported", image, image)
     }
 
-    /// RUN into a buffer of so many bytes: the status, and the bytes afterwards.
+    /// RUN into a buffer of so many bytes, whatever stood there: the status, and the bytes afterwards.
     pub fn play(&mut self, log: &[u8], limit: usize, size: usize) -> Result<(u8, Vec<u8>), String> {
-        let before = junk(size);
-        let (Counts { taken, status, .. }, after) = image::play(log, limit, &before);
-        let mut lent = Guarded::of(&before);
+        let [junk, image] = stood(size);
+        self.played(log, limit, &image)?;
+        self.played(log, limit, &junk)
+    }
+
+    fn played(&mut self, log: &[u8], limit: usize, before: &[u8]) -> Result<(u8, Vec<u8>), String> {
+        let (Counts { taken, status, .. }, after) = image::play(log, limit, before);
+        let mut lent = Guarded::of(before);
         let answer = self.subject.play(log, limit, lent.lent());
-        self.count("play", status, &before);
+        self.count("play", status, before);
         self.logs_again += usize::from(again::in_log(&log[..taken]));
         same("RUN's status", log, status, answer)
             .and_then(|()| lent.holds("RUN's image", log, &after))

@@ -1,7 +1,7 @@
 //! The images and logs that are compared: random, made up, changed in one place, and reached from an opening.
 
 use crate::generate::{self, accepted, opening, random_list, Rng};
-use crate::image::{self, BALLOTS, BALLOT_MARKS, BALLOT_VOTERS, BYTES, MARKS, STATION, STATIONS, TALLY, VERSION};
+use crate::image::{self, BALLOT_MARKS, BALLOT_VOTERS, BYTES, MARKS, STATION, STATIONS, TALLY, VERSION, VOTERS};
 use crate::image_judge::ImageJudge;
 use crate::image_lists::List;
 use crate::image_rows;
@@ -92,11 +92,12 @@ fn looked_at(judge: &mut ImageJudge, rng: &mut Rng, image: &[u8], n: u8) -> Chec
 
 // ---- kinds of images
 
-/// Every n with rules good and bad, over bytes of any length.
+/// Every n with rules good and bad, over bytes of any length and over an image.
 fn openings(judge: &mut ImageJudge, rng: &mut Rng) -> Checked {
     for n in 0..=255 {
         for rule in [0, 1, 2, 3, 4, 255] {
             judge.open(&rng.bytes(BYTES), n, rule)?;
+            judge.open(&image::encode(&made_up::record(rng)), n, rule)?;
             let size = rng.pick(&[0, 1, 2, 3, 643, 899, 1155, 1282, 1284, 2000]);
             judge.open(&rng.bytes(size), n, rule)?;
         }
@@ -131,14 +132,14 @@ fn any_bytes(judge: &mut ImageJudge, rng: &mut Rng) -> Checked {
         through(judge, rng, &image)?;
         image[0] = VERSION;
         through(judge, rng, &image)?;
-        image[STATIONS..BALLOTS]
+        image[STATIONS..VOTERS]
             .chunks_mut(STATION)
             .for_each(|entry| (entry[0], entry[1]) = (entry[0] % 8, entry[1] % 2));
         image[MARKS..].iter_mut().for_each(|mark| *mark %= 2);
         through(judge, rng, &image)?;
         (image[1], image[2]) = (rng.pick(&[1, 1, 2, 3, 8]), rng.pick(&[1, 2]));
         through(judge, rng, &image)?;
-        image[STATIONS..BALLOTS].chunks_mut(STATION).for_each(|entry| entry[2] = 0);
+        image[STATIONS..VOTERS].chunks_mut(STATION).for_each(|entry| entry[2] = 0);
         through(judge, rng, &image)?;
     }
     Ok(())
@@ -229,7 +230,7 @@ fn one_change(judge: &mut ImageJudge, rng: &mut Rng) -> Checked {
         let mut image = image::encode(&record);
         through(judge, rng, &image)?;
         let any = rng.byte();
-        let used = BALLOTS.min(STATIONS + STATION * usize::from(record.n));
+        let used = VOTERS.min(STATIONS + STATION * usize::from(record.n));
         let place = rng.pick(&[0, 1, 2, rng.clone().below(used), rng.clone().below(BYTES)]);
         image[place] = rng.pick(&[0, 1, 2, 3, 5, 7, 8, 31, 32, 33, 255, any]);
         through(judge, rng, &image)?;
@@ -260,7 +261,7 @@ fn one_place(judge: &mut ImageJudge, rng: &mut Rng, image: &[u8], place: usize) 
             judge.event(&changed, event)?;
         }
         judge.look(&changed, rng.byte() % image[1])?;
-        let b = if place < BALLOTS { some_ballot(rng) } else { ballot_at(place) };
+        let b = if place < VOTERS { some_ballot(rng) } else { ballot_at(place) };
         judge.look_ballot(&changed, b, TALLY)?;
     }
     let mut changed = image.to_vec();
@@ -271,7 +272,7 @@ fn one_place(judge: &mut ImageJudge, rng: &mut Rng, image: &[u8], place: usize) 
 /// The ballot whose voters or marks have this place.
 fn ballot_at(place: usize) -> u8 {
     let b = match place < MARKS {
-        true => place.saturating_sub(BALLOTS) / BALLOT_VOTERS,
+        true => place.saturating_sub(VOTERS) / BALLOT_VOTERS,
         false => (place - MARKS) / BALLOT_MARKS,
     };
     b as u8
@@ -282,7 +283,7 @@ fn near(rng: &mut Rng, n: u8, place: usize) -> [Event; 5] {
     let s = (place.saturating_sub(STATIONS) / STATION) as u8;
     let b = ballot_at(place);
     let [claim, deliver, step, lose, answer] = five_events(rng, n);
-    match (s < n, place >= BALLOTS) {
+    match (s < n, place >= VOTERS) {
         (true, _) => {
             let v = rng.next() as u32;
             [

@@ -130,7 +130,7 @@ fn sound(judge: &mut ImageJudge, bytes: &[Byte]) -> Checked {
     hand(judge, bytes).event(LOSE, 0, &[(4, 1)])
 }
 
-/// Accepted, the head and zeros; refused, the blank settlement: no stations, rule 1.
+/// Accepted, the head and zeros; refused, the blank settlement: no stations, rule 1. So over no image, and over one.
 fn openings(judge: &mut ImageJudge) -> Checked {
     for (n, rule, head) in [
         (2, 1, [3, 2, 1]),
@@ -142,9 +142,11 @@ fn openings(judge: &mut ImageJudge) -> Checked {
         (32, 3, [3, 0, 1]),
         (1, 0, [3, 0, 1]),
     ] {
-        let after = judge.open(&[0xee; 1283], n, rule)?;
-        let [version, n, rule] = head;
-        agree_bytes("OPEN", &head, &image(&[(0, version), (1, n), (2, rule)]), &after)?;
+        let [version, count, by] = head;
+        let due = image(&[(0, version), (1, count), (2, by)]);
+        for before in [vec![0xee; 1283], image(&[(0, 3), (1, 2), (2, 1), (3, 7), (1282, 1)])] {
+            agree_bytes("OPEN", &head, &due, &judge.open(&before, n, rule)?)?;
+        }
     }
     for size in [0, 1, 899, 1155, 1282, 1284] {
         let after = judge.open(&vec![0xee; size], 2, 1)?;
