@@ -30,7 +30,7 @@ use Rattle.settlement.specs.Laws.{Outside, Has-ballot, Votes-in}
 
 -- ---- every record, made-up ones included
 
--- "and then gives empty sets, counts 0 and no answer"
+-- "and then gives empty sets, counts 0 and no answer": written out once more, so that the laws go by no definition that they fix
 abbrev pub nothing-tallied : ℕ → Tally
 nothing-tallied k = record { number = k; cast0 = 0; cast1 = 0; count0 = 0; count1 = 0; answered = false; answer = false }
 
