@@ -28,7 +28,7 @@ enum {
     DAGMUIZE_DECIDED = 7, /* the station has decided already */
     DAGMUIZE_WAITS = 8, /* the station waits for its own claim, or for the ballot's answer */
     DAGMUIZE_NO_BALLOT = 9, /* no such ballot */
-    DAGMUIZE_NO_BIT = 10, /* the answer is above 1, so it is no bit */
+    DAGMUIZE_NO_BIT = 10, /* the answer, or the preferred bit, is above 1, so it is no bit */
     DAGMUIZE_ANSWERED = 11, /* the ballot has the other bit as its answer */
     DAGMUIZE_NOT_CAST = 12, /* no station cast that bit in the ballot */
     DAGMUIZE_SHORT = 20, /* fewer than three bytes are left, too few for a field */
@@ -42,6 +42,7 @@ enum {
     DAGMUIZE_STATIONS = 40, /* no station, or more than 32 */
     DAGMUIZE_RULE = 41, /* a rule other than 1 and 2 */
     DAGMUIZE_RECORD = 42, /* made-up bytes: a record outside its ranges, or a STEP that takes answer 0 from the last ballot */
+    DAGMUIZE_NOT_CLOSED = 43, /* made-up bytes: an event of the closing log is refused, or a station uses up its steps undecided */
     DAGMUIZE_IMAGE_LENGTH = 80, /* an image has 1,283 bytes, no more and no fewer */
     DAGMUIZE_IMAGE_VERSION = 81 /* the image's first byte is another version than 3 */
 };
@@ -50,9 +51,10 @@ enum {
 #define DAGMUIZE_IMAGE_BYTES 1283
 /* Bytes that dagmuize_look_ballot writes. */
 #define DAGMUIZE_LOOK_BALLOT_BYTES 12
-/* Bytes that are always enough, for dagmuize_look_all and for a report. */
+/* Bytes that are always enough, for dagmuize_look_all, for a report and for a closing log. */
 #define DAGMUIZE_LOOK_ALL_BYTES 256
 #define DAGMUIZE_REPORT_BYTES 24576
+#define DAGMUIZE_CLOSING_BYTES 153024
 /* The rules. */
 #define DAGMUIZE_BY_STATION 1
 #define DAGMUIZE_BY_CLAIM 2
@@ -141,6 +143,19 @@ size_t dagmuize_read_taken(const uint8_t *log, size_t log_len);
    beside any tag but 0x30, note may be NULL with length 0. */
 uint32_t dagmuize_put(uint8_t tag, uint8_t x, uint8_t y, uint32_t v, const uint8_t *note, size_t note_len, uint8_t *buffer, size_t buffer_len,
                       size_t place);
+
+/* CLOSE: plays a log as RUN does, and writes the closing log of the settlement that it plays to, to the start of out: events only, which after the log
+   bring every live station that has claimed to its decision. Passes over these stations in rising order, until all have decided: each gets its own claim
+   if it lacks it, then every claim that it lacks and any station holds, in rising order; then, if the ballot that it awaits has no answer, one, the
+   preferred bit if some station cast it, else the other; then one STEP. The answer is 4,294,967,296 times the number, plus the bytes written. The number
+   is RUN's status where the log stops early (26 at the limit, too); then 10 for a preferred bit above 1, then 30. 43 is for made-up settlements, to which
+   no log plays. Refused: no byte is written and the count is 0. DAGMUIZE_CLOSING_BYTES are always enough: for each of 32 stations at most 32 deliveries
+   of 5 bytes and 1,153 steps of 4, and 64 answers of 5. */
+uint64_t dagmuize_close(const uint8_t *log, size_t log_len, size_t limit, uint8_t preferred, uint8_t *out, size_t out_len);
+
+/* CLOSE's number, and the bytes that it wrote. */
+static inline uint8_t dagmuize_close_number(uint64_t close) { return (uint8_t)(close >> 32); }
+static inline size_t dagmuize_close_count(uint64_t close) { return (size_t)(close & 0xffffffffu); }
 
 #ifdef __cplusplus
 }

@@ -24,5 +24,10 @@ int main(void) {
     if (dagmuize_play(log, end, 3, image, sizeof image) != 0 || dagmuize_play(log, end, 3, NULL, 0) != DAGMUIZE_IMAGE_LENGTH) return 4;
     size_t length = dagmuize_report(log, end, text, sizeof text);
     if (dagmuize_image_report(image, sizeof image, 3, end, 0, again, sizeof again) != length || memcmp(text, again, length) != 0) return 5;
-    return fwrite(text, 1, length, stdout) == length ? 0 : 6;
+    /* closed after its opening and its claim, in 5 and 8 bytes, the log is the same again: the claim held, and a step; now nothing is left to close */
+    uint8_t closing[DAGMUIZE_CLOSING_BYTES];
+    uint64_t closed = dagmuize_close(log, 13, 1, 1, closing, sizeof closing);
+    if (dagmuize_close_number(closed) != 0 || dagmuize_close_count(closed) != end - 13 || memcmp(closing, log + 13, end - 13) != 0) return 6;
+    if (dagmuize_close(log, end, 3, 0, NULL, 0) != 0 || dagmuize_close_number(dagmuize_close(log, 13, 1, 1, closing, 8)) != DAGMUIZE_NO_ROOM) return 7;
+    return fwrite(text, 1, length, stdout) == length ? 0 : 8;
 }

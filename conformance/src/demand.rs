@@ -56,7 +56,7 @@ fn one_event(play: &mut Play, event: Event, taken: &mut [usize; 32], seen: &mut 
 }
 
 /// P holds its own claim and every claim any station holds, and the ballot it waits on is answered.
-fn is_supplied(play: &Play, p: u8) -> bool {
+pub fn is_supplied(play: &Play, p: u8) -> bool {
     let waits_on = play.voted(p).into_iter().nth(play.took(p).len());
     play.held.contains(&(p, p))
         && play.held.iter().all(|&(t, _)| play.held.contains(&(t, p)))
@@ -64,7 +64,7 @@ fn is_supplied(play: &Play, p: u8) -> bool {
 }
 
 /// P has claimed, is not lost and is undecided.
-fn is_due(play: &Play, p: u8) -> bool {
+pub fn is_due(play: &Play, p: u8) -> bool {
     play.put_in.contains_key(&p) && !play.lost.contains(&p) && play.decision(p).is_none()
 }
 
@@ -74,7 +74,7 @@ fn longest(play: &Play) -> usize {
 }
 
 /// The most supplied steps.
-fn bound(play: &Play) -> usize {
+pub fn bound(play: &Play) -> usize {
     let n = usize::from(play.n);
     match play.rule {
         Rule::ByStation => 1 + usize::from(ceil_log2(play.n)) * (n + 2),

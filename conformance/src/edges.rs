@@ -43,7 +43,7 @@ fn fields(words: &str) -> Vec<Field> {
         let (verb, rest) = clause.trim().split_once(' ').expect("a verb and its numbers");
         rest.split(',').map(|numbers| field(verb, numbers)).collect()
     };
-    words.split(';').flat_map(verb).collect()
+    words.split(';').filter(|clause| !clause.is_empty()).flat_map(verb).collect()
 }
 
 fn field(verb: &str, numbers: &str) -> Field {
@@ -62,12 +62,13 @@ fn field(verb: &str, numbers: &str) -> Field {
     })
 }
 
-fn bytes_of(words: &str) -> Vec<u8> {
+/// The log of a case's words; no words are no field.
+pub fn bytes_of(words: &str) -> Vec<u8> {
     fields(words).iter().flat_map(Field::bytes).collect()
 }
 
 /// Fails where the model does not say what the document says.
-fn expect(name: &str, holds: bool) -> Checked {
+pub fn expect(name: &str, holds: bool) -> Checked {
     if holds {
         Ok(())
     } else {

@@ -37,6 +37,10 @@ impl Subject for Archive {
         let Parts { tag, x, y, v, note } = parts;
         bytes::put(tag, x, y, v, note, buffer, place)
     }
+
+    fn close(&self, log: &[u8], limit: usize, preferred: u8, out: &mut [u8]) -> u64 {
+        bytes::close(log, limit, preferred, out)
+    }
 }
 
 impl Images for Archive {

@@ -1,7 +1,10 @@
 //! Compares a subject with the model and counts what was compared.
 
 use crate::again::{self, Met};
+use crate::closing;
+use crate::closings::{self, Closed};
 use crate::demand::{self, Seen};
+use crate::guarded::Guarded;
 use crate::log::{self, Counts, Field};
 use crate::model::{Event, Play};
 use crate::record::Record;
@@ -13,9 +16,10 @@ use std::collections::BTreeMap;
 /// A difference is told in words, with the input in hex.
 pub type Checked = Result<(), String>;
 
-/// Comparisons of READ and PUT have columns of their own.
+/// Comparisons of READ, PUT and CLOSE have columns of their own.
 pub const READ: &str = "READ";
 pub const PUT: &str = "PUT";
+pub const CLOSE: &str = "CLOSE";
 
 /// Every status that a log can reach.
 pub const STATUSES: [u8; 22] = [0, 1, 2, 3, 4, 5, 6, 7, 8, 9, 10, 11, 12, 20, 21, 22, 23, 24, 25, 26, 40, 41];
@@ -33,6 +37,7 @@ pub struct Judge<'a> {
     pub reports: usize,
     pub too_long: usize,
     pub too_small: usize,
+    pub closed: Closed,
 }
 
 /// Bytes around a lent buffer, and in it at first.
@@ -76,6 +81,7 @@ impl<'a> Judge<'a> {
             reports: 0,
             too_long: 0,
             too_small: 0,
+            closed: Closed::default(),
         }
     }
 
@@ -199,6 +205,21 @@ impl<'a> Judge<'a> {
         same_bytes(&what, &[], &pattern(80), &buffer)
     }
 
+    /// CLOSE into a buffer of so many bytes, between guards, with the closing log that is due, or the number.
+    pub fn close(&mut self, log: &[u8], limit: usize, bit: u8, room: usize, due: Result<&[u8], u8>) -> Checked {
+        let (number, written) = match due {
+            Ok(bytes) if bytes.len() <= room => (0, bytes),
+            Ok(_) => (30, &[][..]),
+            Err(number) => (number, &[][..]),
+        };
+        let mut buffer = Guarded::unwritten(room);
+        let answer = self.subject.close(log, limit, bit, buffer.lent());
+        self.count(number, CLOSE);
+        let what = format!("CLOSE with limit {limit}, the preferred bit {bit} and room for {room}");
+        same(&what, log, u64::from(number) * 4_294_967_296 + written.len() as u64, answer)?;
+        buffer.begins(&what, log, written)
+    }
+
     /// A list of events: demand 3, who voted which way, and the log up to each refused event, which then is left out.
     /// A long log is compared only now and then.
     pub fn list(&mut self, n: u8, rule: u8, events: &[Event]) -> Checked {
@@ -250,9 +271,19 @@ impl<'a> Judge<'a> {
         STATUSES.into_iter().filter(|&s| !seen(s)).collect()
     }
 
+    /// Numbers that CLOSE did not meet, and sorts of closing logs that were none.
+    pub fn not_closed(&self) -> String {
+        let numbers: Vec<u8> = closings::due().filter(|&number| !self.counts.contains_key(&(number, CLOSE))).collect();
+        let sorts = self.closed.sorts.missing(&closing::SORTS, 1);
+        match numbers.is_empty() && sorts.is_empty() && self.closed.no_bit > 0 && self.closed.at_bound > 0 {
+            true => String::new(),
+            false => format!("CLOSE was not compared for {numbers:?} {sorts:?}, or for no bit, or not at the bound"),
+        }
+    }
+
     /// Rows by number, columns by kind; the last row has the logs that play an answer again.
     pub fn table(&self) -> String {
-        let columns = || self.kinds.iter().copied().chain([READ, PUT]);
+        let columns = || self.kinds.iter().copied().chain([READ, PUT, CLOSE]);
         let mut numbers: Vec<u8> = self.counts.keys().map(|(number, _)| *number).collect();
         numbers.dedup();
         let head: String = columns().map(|kind| format!("{kind:>12}")).collect();

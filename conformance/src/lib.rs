@@ -2,6 +2,8 @@
 
 pub mod again;
 pub mod by_hand;
+pub mod closing;
+pub mod closings;
 pub mod demand;
 pub mod edges;
 #[cfg(feature = "archive")]
@@ -19,6 +21,7 @@ pub mod log;
 pub mod made_up;
 pub mod model;
 pub mod plain;
+pub mod plain_close;
 pub mod plain_image;
 pub mod record;
 pub mod script;

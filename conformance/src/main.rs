@@ -2,6 +2,7 @@
 //! `--self` compares the plain implementation instead, and needs no archive.
 
 use conformance::again;
+use conformance::closings;
 use conformance::edges;
 use conformance::generate::{self, accepted, opening, random_list, Rng};
 use conformance::judge::{Checked, Judge};
@@ -63,10 +64,15 @@ fn print_counts(judge: &Judge) {
     );
     print!("{}", seen.again.lines("ANSWER of", &again::IN_LISTS));
     println!("{} looks at a ballot by the record beside the history", judge.tallies);
+    print!("{}", judge.closed.lines());
 }
 
-/// Every status that a log can reach was reached, and an answer came again in every way.
+/// Every status that a log can reach was reached, an answer came again in every way, and CLOSE met its numbers.
 fn complete(judge: &Judge) -> Checked {
+    let not_closed = judge.not_closed();
+    if !not_closed.is_empty() {
+        return Err(not_closed);
+    }
     let (missing, never) = (judge.missing(), judge.again.missing(&AGAIN, 1));
     let rare = judge.seen.again.missing(&again::IN_LISTS, LEAST);
     if !never.is_empty() || !rare.is_empty() {
@@ -107,7 +113,8 @@ fn compare(judge: &mut Judge, rng: &mut Rng) -> Checked {
         kind(judge, rng)?;
     }
     reads(judge)?;
-    puts(judge, rng)
+    puts(judge, rng)?;
+    closings::compare(judge)
 }
 
 /// Every n with rules good and bad.

@@ -25,4 +25,6 @@ pub trait Subject {
     fn read_taken(&self, log: &[u8]) -> usize;
     /// PUT's number times 65,536, and the count.
     fn put(&self, parts: Parts, buffer: &mut [u8], place: usize) -> u32;
+    /// The closing log of what a log plays to: 4,294,967,296 times the number, and the count.
+    fn close(&self, log: &[u8], limit: usize, preferred: u8, out: &mut [u8]) -> u64;
 }

@@ -15,6 +15,10 @@ pub const LOOK_BALLOT_BYTES: usize = 12;
 /// The bytes that are always enough for a report.
 pub const REPORT_BYTES: usize = 24_576;
 
+/// The bytes that are always enough for a closing log: for each of 32 stations at most 32 deliveries of 5 bytes and
+/// 1,153 steps of 4, and 64 answers of 5.
+pub const CLOSING_BYTES: usize = 153_024;
+
 extern "C" {
     fn dagmuize_open(image: *mut u8, image_len: usize, n: u8, rule: u8) -> u8;
     fn dagmuize_claim(image: *mut u8, image_len: usize, s: u8, v: u32) -> u8;
@@ -52,6 +56,8 @@ extern "C" {
         buffer_len: usize,
         place: usize,
     ) -> u32;
+    fn dagmuize_close(log: *const u8, log_len: usize, limit: usize, preferred: u8, out: *mut u8, out_len: usize)
+        -> u64;
 }
 
 // Safety, for every call below: each pointer and length are those of one live slice, and two slices of one call do not
@@ -148,4 +154,11 @@ pub fn read_taken(log: &[u8]) -> usize {
 pub fn put(tag: u8, x: u8, y: u8, v: u32, note: &[u8], buffer: &mut [u8], place: usize) -> u32 {
     let (from, to) = (note.as_ptr(), buffer.as_mut_ptr());
     unsafe { dagmuize_put(tag, x, y, v, from, note.len(), to, buffer.len(), place) }
+}
+
+/// CLOSE: the closing log of what a log plays to. 4,294,967,296 times the number (RUN's status, 10, 30), plus the bytes
+/// written.
+pub fn close(log: &[u8], limit: usize, preferred: u8, out: &mut [u8]) -> u64 {
+    let (from, to) = (log.as_ptr(), out.as_mut_ptr());
+    unsafe { dagmuize_close(from, log.len(), limit, preferred, to, out.len()) }
 }

@@ -67,6 +67,7 @@
 
 #[allow(unsafe_code)]
 pub mod bytes;
+mod closing;
 mod field;
 mod log;
 mod played;
@@ -77,6 +78,7 @@ mod standing;
 mod tally;
 mod text;
 
+pub use closing::closing;
 pub use field::Field;
 pub use log::{Fields, Log};
 pub use played::Played;

@@ -1,6 +1,7 @@
 //! Logs: written field by field with PUT, and read field by field with READ.
 
 use crate::bytes;
+use crate::closing::closing;
 use crate::field::Field;
 use crate::refusal::Refusal;
 
@@ -35,6 +36,13 @@ impl Log {
         let answer = bytes::put(tag, x, y, v, note, &mut self.0, place);
         self.0.truncate(place + (answer & 0xffff) as usize);
         Refusal::unless_accepted((answer >> 16) as u8)
+    }
+
+    /// CLOSE at the log's end: adds the events of its closing log ([`closing`]). Refused, the log stays: the number of
+    /// what stops it, or 10 for a preferred bit above 1.
+    pub fn close(&mut self, preferred: u8) -> Result<(), Refusal> {
+        self.0.extend(closing(&self.0, preferred)?);
+        Ok(())
     }
 
     /// The log's bytes.

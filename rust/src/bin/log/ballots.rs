@@ -15,7 +15,7 @@ pub const VERB: Verb = Verb {
       has its ballots as they are there: the byte, the number and what it says are the line on standard error,
       and the exit status is 1.
 ",
-    takes: 1..=1,
+    takes: |words| words.len() == 1,
     run,
 };
 

@@ -1,6 +1,7 @@
 //! `./log`, for people who keep logs. A verb is a file of its own and a row of `VERBS`.
 
 mod ballots;
+mod close;
 mod make;
 mod show;
 #[cfg(test)]
@@ -13,10 +14,10 @@ use std::process::ExitCode;
 
 use verb::{Answer, Verb};
 
-const VERBS: [Verb; 3] = [show::VERB, make::VERB, ballots::VERB];
+const VERBS: [Verb; 4] = [show::VERB, make::VERB, ballots::VERB, close::VERB];
 
 const ABOUT: &str = "\
-./log VERB ..: shows and makes logs of events, and shows who voted. The number of a refusal is said with its words.
+./log VERB ..: shows, makes and closes logs of events, and shows who voted. The number of a refusal is said with its words.
 ";
 
 const TEXT: &str = "\
@@ -44,7 +45,7 @@ fn main() -> ExitCode {
     };
     match VERBS.iter().find(|verb| name == verb.name) {
         None => bad_call(&VERBS),
-        Some(verb) if verb.takes.contains(&rest.len()) => finish((verb.run)(rest)),
+        Some(verb) if (verb.takes)(rest) => finish((verb.run)(rest)),
         Some(verb) => bad_call(std::slice::from_ref(verb)),
     }
 }

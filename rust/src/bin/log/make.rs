@@ -13,7 +13,7 @@ pub const VERB: Verb = Verb {
         "      The log of a text, on standard output: what show prints is such a text. A bad line gets its number and
       what is wrong, and no byte is written. Without FILE the text is standard input.
 ",
-    takes: 0..=1,
+    takes: |words| words.len() <= 1,
     run,
 };
 

@@ -14,7 +14,7 @@ pub const VERB: Verb = Verb {
       not played. A field that does not read ends it: its byte, its number and what it says are the line on
       standard error, and the exit status is 1.
 ",
-    takes: 1..=1,
+    takes: |words| words.len() == 1,
     run,
 };
 

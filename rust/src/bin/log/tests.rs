@@ -1,8 +1,9 @@
-//! show, make and ballots on random logs, from a fixed seed.
+//! show, make, ballots and close on random logs, from a fixed seed.
 
 use dagmuize::{bytes, Field, Log, Settlement};
 
 use crate::ballots::voted;
+use crate::close::{self, closed};
 use crate::make::made;
 use crate::show::shown;
 use crate::verb::Answer;
@@ -188,6 +189,56 @@ fn ballots_shows_every_vote_of_random_logs() {
         stopped += usize::from(status != 0);
     }
     assert!(votes > 4000 && (1000..2000).contains(&stopped), "{votes} votes, {stopped} logs that stop");
+}
+
+/// A log that stops is not closed. Another is the beginning of what is printed, which plays to the end and has nothing
+/// left to close.
+#[test]
+fn close_brings_random_logs_to_their_end() {
+    let mut rng = Rng(18);
+    let (mut stopped, mut longer) = (0, 0);
+    for _ in 0..2000 {
+        let log = accepted(&mut rng);
+        let (status, taken) = (bytes::status(&log, log.len()), bytes::taken(&log, log.len()));
+        let Answer { out, wrong } = closed(log.clone(), rng.below(2) as u8);
+        if status != 0 {
+            assert!(out.is_empty(), "a log that stops is not closed");
+            assert!(wrong.expect("it is said").starts_with(&format!("byte {taken}: {status}: ")));
+            stopped += 1;
+            continue;
+        }
+        assert_eq!((wrong, &out[..log.len()]), (None, &log[..]));
+        let played = Settlement::play(&out, out.len());
+        assert_eq!(played.status(), 0);
+        let standing = |line: &str| line.contains(" decided ") || line.ends_with(" lost") || line.contains(" idle ");
+        assert!(played.report().lines().skip(1).all(standing), "{}", played.report());
+        longer += usize::from(out.len() > log.len());
+        [0, 1].into_iter().for_each(|bit| assert_eq!(closed(out.clone(), bit).out, out, "it is closed"));
+    }
+    assert!(stopped > 500 && longer > 200, "{stopped} logs that stop, {longer} that are closed");
+}
+
+#[test]
+fn close_prefers_a_bit_where_it_was_cast() {
+    let shown = |text: &str, bit: u8| String::from_utf8(shown(&closed(made(text.as_bytes()).out, bit).out).out);
+    let answers = |text: &str, bit: u8| -> Vec<String> {
+        let text = shown(text, bit).expect("it is ASCII");
+        let answers = text.lines().filter(|line| line.starts_with("answer"));
+        answers.map(|line| line.split('#').next().unwrap_or("").trim().to_string()).collect()
+    };
+    let two = "open 2 1\nclaim 0 7\nclaim 1 9\n";
+    assert_eq!([answers(two, 0), answers(two, 1)], [["answer 0 0"], ["answer 0 1"]]);
+    let one = "open 2 1\nclaim 0 7\n";
+    assert_eq!([answers(one, 0), answers(one, 1)], [["answer 0 0"]; 2]);
+}
+
+#[test]
+fn close_takes_a_bit_that_is_0_or_1() {
+    let takes = |words: &[&str]| (close::VERB.takes)(&words.iter().map(|word| word.into()).collect::<Vec<_>>());
+    assert!(takes(&["f"]) && takes(&["f", "0"]) && takes(&["f", "1"]) && takes(&["-", "1"]));
+    let bad: [&[&str]; 8] =
+        [&[], &["f", "2"], &["f", ""], &["f", "01"], &["f", "-1"], &["f", "x"], &["f", "0", "1"], &["f", "f"]];
+    assert!(bad.iter().all(|words| !takes(words)));
 }
 
 #[test]

@@ -3,7 +3,6 @@
 use std::ffi::{OsStr, OsString};
 use std::fs;
 use std::io::{self, Read};
-use std::ops::RangeInclusive;
 
 pub struct Verb {
     pub name: &'static str,
@@ -11,8 +10,8 @@ pub struct Verb {
     pub call: &'static str,
     /// Indented lines of the help.
     pub about: &'static str,
-    /// How many words it takes after its name.
-    pub takes: RangeInclusive<usize>,
+    /// Whether it takes these words after its name.
+    pub takes: fn(&[OsString]) -> bool,
     pub run: fn(&[OsString]) -> Answer,
 }
 

@@ -1,0 +1,3 @@
+-- What the crate `closing_exports` is about: CLOSE as other languages call it.
+--     Exports   the answer in one number, and the buffer
+pub mod Exports
