@@ -13,6 +13,7 @@ use Rattle.basics.proofs.Bools.{by-bool}
 use Rattle.bits.specs.Digits.{bit}
 use Rattle.bits.specs.Words.{mask-bits, member}
 use Rattle.bits.proofs.Digits.{bit-low, bit-step, half-lt}
+use Rattle.bits.proofs.Masks.{member-none}
 use Rattle.closing.specs.Masks.{Missing, Both, Either, Lowest}
 
 -- ---- an operation digit by digit
@@ -112,3 +113,7 @@ lowest-one (suc k) n l d = one-by n _ (under-digit (n % 2) (trailingZeros k (n /
 pub lowest-of : (mask : ℕ) → mask < 2 ^ mask-bits → Lowest mask (trailingZeros mask-bits mask)
 unfolding member
 lowest-of mask l = record { most = trailing-le mask-bits mask; none-below = low-zeros mask-bits mask; is-in = lowest-one mask-bits mask l }
+
+-- nobody is in an empty mask
+pub none-in : {mask : ℕ} → mask ≡ 0 → (t : ℕ) → member t mask ≡ false
+none-in e t = ap (member t) e ∙ member-none t

@@ -2,7 +2,7 @@
 ghost use mathlib.Core.Path.{_≡_};
 ghost use mathlib.Core.Bool.{not, _&&_};
 ghost use Rattle.closing.specs.Turn.{is-left, awaits, answer-bit};
-ghost use Rattle.closing.specs.Due.{Due-so};
+ghost use Rattle.closing.specs.Due.{Due-so, Told-ready};
 use crate::mask::lowest;
 use crate::mask::missing;
 use bits::mask::mask_has;
@@ -62,4 +62,13 @@ pub(crate) fn due(own: Station, s: u8, hand: u32, b: u8, t: Ballot, preferred: b
         };
     }
     Event::Step { s }
+}
+
+// A station that seeks and lacks nothing. It takes most of a closing log's STEPs.
+pub(crate) fn is_ready(own: Station, s: u8, hand: u32) -> bool
+    ensures { λ x. ⌜ Told-ready own s hand x ⌝ }
+{
+    let stage = own.stage;
+    let lacked = missing(hand, own.held);
+    is_at(stage, Stage::Seeking) & (mask_has(own.held, s) & (lacked == 0))
 }

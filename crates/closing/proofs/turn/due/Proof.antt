@@ -1,24 +1,18 @@
 -- `closing::turn::due`: each return is what its tests say is due. Assumes nothing.
-use Prim.Native.Nat.{ℕ}
-use mathlib.Core.Path.{_≡_, refl, sym, _∙_, ap}
+use mathlib.Core.Path.{_≡_, refl, sym, _∙_}
 use mathlib.Core.Bool.{Bool, true, false}
 use mir.Val.{boolByte}
 use borrow.Author.Needs.{needs}
 use Rattle.basics.proofs.Bools.{not-true→false, not-false→true}
 use Rattle.bits.specs.Digits.{value}
-use Rattle.bits.specs.Words.{member}
-use Rattle.bits.proofs.Masks.{member-none}
 use Rattle.closing.specs.Due.{own-due, claim-due, answer-due, step-due}
+use Rattle.closing.proofs.Sets.{none-in}
 use Rattle.closing.proofs.turn.due.Statement.{statement}
 use Rattle.closing.proofs.turn.due.Tie as tie
 
 as-value : (b : Bool) → boolByte b ≡ value b
 as-value true = refl
 as-value false = refl
-
--- nothing is lacked where the mask is empty
-none-in : {mask : ℕ} → mask ≡ 0 → (w : ℕ) → member w mask ≡ false
-none-in e w = ap (member w) e ∙ member-none w
 
 returns : tie.Need-returns
 returns c = own-due (sym (c .before .mask-has .ensures) ∙ not-true→false _ (c .if1 .taken))
