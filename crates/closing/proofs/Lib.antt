@@ -12,6 +12,7 @@ pub mod Due
 --     Measured    the answers of CLOSE
 --     Hand        the mask of the claims at hand
 --     Sound       the record test after an event
+--     Delivering  the DELIVER of a claim that is due
 --     Seeking     the STEP of a station that seeks
 --     Onwards     what is left of the closing log
 --     Going       each way through the loop
@@ -21,6 +22,7 @@ pub mod Size
 pub mod Measured
 pub mod Hand
 pub mod Sound
+pub mod Delivering
 pub mod Seeking
 pub mod Onwards
 pub mod Going

@@ -6,13 +6,13 @@ use mathlib.Core.Bool.{Bool, true, false, not, _&&_, _||_}
 use native.Mathlib.Omega.{arith}
 use native.Mathlib.Nat.{mod-lt}
 use lib.Bits.{bitAnd, bitOr, bitXor, differ, and-step, or-step, xor-step}
-use lib.Count.{trailingZeros, under, trailing-le}
-use lib.Dec.{eqb}
-use borrow.Author.Tests.{eqb-true, eqb-false}
-use Rattle.basics.proofs.Bools.{by-bool}
+use lib.Count.{trailingZeros, under, trailing-le, trailing-of-zero}
+use lib.Dec.{eqb, ltb}
+use borrow.Author.Tests.{eqb-true, eqb-false, ltb-true, ltb-false}
+use Rattle.basics.proofs.Bools.{by-bool, no-clash}
 use Rattle.bits.specs.Digits.{bit}
 use Rattle.bits.specs.Words.{mask-bits, member}
-use Rattle.bits.proofs.Digits.{bit-low, bit-step, half-lt}
+use Rattle.bits.proofs.Digits.{bit-low, bit-step, bit-above, half-lt}
 use Rattle.bits.proofs.Masks.{member-none}
 use Rattle.closing.specs.Masks.{Missing, Both, Either, Lowest}
 
@@ -110,9 +110,24 @@ unfolding trailingZeros
 lowest-one zero n l d = absurd (d (omega arith))
 lowest-one (suc k) n l d = one-by n _ (under-digit (n % 2) (trailingZeros k (n / 2)) (digit n)) (lowest-one k (n / 2) (half-lt k n l)) d
 
+-- a mask that is not 0 has its lowest inside its room
+found : (mask : ℕ) → mask < 2 ^ mask-bits → (mask ≡ 0 → ⊥) → trailingZeros mask-bits mask < mask-bits
+found mask l d =
+    by-bool (ltb (trailingZeros mask-bits mask) mask-bits) (λ e. ltb-true _ _ e)
+    (λ e. no-clash _ (lowest-one mask-bits mask l d) (bit-above mask-bits mask l _ (ltb-false _ _ e)))
+
 pub lowest-of : (mask : ℕ) → mask < 2 ^ mask-bits → Lowest mask (trailingZeros mask-bits mask)
 unfolding member
-lowest-of mask l = record { most = trailing-le mask-bits mask; none-below = low-zeros mask-bits mask; is-in = lowest-one mask-bits mask l }
+lowest-of mask l =
+    record {
+      most = trailing-le mask-bits mask;
+      none-below = low-zeros mask-bits mask;
+      empty = λ m. by-bool (eqb mask 0) (λ e. eqb-true mask 0 e) (λ e. absurd (let f = found mask l (eqb-false mask 0 e) in omega arith));
+      is-in = λ m.
+          lowest-one mask-bits mask l (λ z.
+          let k : trailingZeros mask-bits mask ≡ mask-bits = ap (trailingZeros mask-bits) z ∙ trailing-of-zero mask-bits in
+          omega arith);
+    }
 
 -- nobody is in an empty mask
 pub none-in : {mask : ℕ} → mask ≡ 0 → (t : ℕ) → member t mask ≡ false

@@ -2,7 +2,7 @@
 ghost use mathlib.Core.Path.{_≡_};
 ghost use mathlib.Core.Bool.{not, _&&_};
 ghost use Rattle.closing.specs.Turn.{is-left, awaits, answer-bit};
-ghost use Rattle.closing.specs.Due.{Due-so, Told-ready};
+ghost use Rattle.closing.specs.Due.{Claimer, Then-due};
 use crate::mask::lowest;
 use crate::mask::missing;
 use bits::mask::mask_has;
@@ -39,21 +39,21 @@ fn is_missing(own: Station, t: Ballot) -> bool
     (is_at(stage, Stage::Awaiting) | is_at(stage, Stage::FinishAwaiting)) & !t.answered
 }
 
-// The next event for station s, whose entry is `own`, where `hand` are the claims that are to be had and t is the entry of its ballot b.
-pub(crate) fn due(own: Station, s: u8, hand: u32, b: u8, t: Ballot, preferred: bool) -> Event
-    ensures { λ e. ⌜ Due-so own s hand b t preferred e ⌝ }
+// The claimer of the claim that is due to station s, whose entry is `own`, where `hand` are the claims that are to be had: 32 where none is.
+pub(crate) fn claimer(own: Station, s: u8, hand: u32) -> u8
+    ensures { λ x. ⌜ Claimer own s hand x ⌝ }
 {
     let has_own = mask_has(own.held, s);
-    if !has_own {
-        return Event::Deliver { t: s, s };
+    if has_own {
+        return lowest(missing(hand, own.held));
     }
-    let lacked = missing(hand, own.held);
-    if lacked != 0 {
-        return Event::Deliver {
-            t: lowest(lacked),
-            s,
-        };
-    }
+    s
+}
+
+// The event that comes after the claims: t is the entry of the station's ballot b.
+pub(crate) fn then_due(own: Station, s: u8, b: u8, t: Ballot, preferred: bool) -> Event
+    ensures { λ e. ⌜ Then-due own s b t preferred e ⌝ }
+{
     let unanswered = is_missing(own, t);
     if unanswered {
         return Event::Answer {
@@ -62,13 +62,4 @@ pub(crate) fn due(own: Station, s: u8, hand: u32, b: u8, t: Ballot, preferred: b
         };
     }
     Event::Step { s }
-}
-
-// A station that seeks and lacks nothing. It takes most of a closing log's STEPs.
-pub(crate) fn is_ready(own: Station, s: u8, hand: u32) -> bool
-    ensures { λ x. ⌜ Told-ready own s hand x ⌝ }
-{
-    let stage = own.stage;
-    let lacked = missing(hand, own.held);
-    is_at(stage, Stage::Seeking) & (mask_has(own.held, s) & (lacked == 0))
 }
