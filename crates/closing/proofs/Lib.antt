@@ -26,6 +26,11 @@ pub mod Delivering
 pub mod Seeking
 pub mod Onwards
 pub mod Going
+-- On every record:
+--     Laws        what the document says of CLOSE, in its words and numbers
+--     Examples    closing logs byte by byte
+pub mod Laws
+pub mod Examples
 -- From an opening:
 --     Supply      what is due is accepted, and a STEP that is due is supplied
 --     Steps       the events of a closing log after a list; the STEPs counted
