@@ -1,3 +1,5 @@
 -- What the crate `closing_exports` is about: CLOSE as other languages call it.
 --     Exports   the answer in one number, and the buffer
+--     Examples  the same byte by byte
 pub mod Exports
+pub mod Examples
