@@ -3,6 +3,8 @@
 pub mod again;
 pub mod by_hand;
 pub mod closing;
+pub mod closing_case;
+pub mod closing_kinds;
 pub mod closings;
 pub mod demand;
 pub mod edges;
@@ -23,7 +25,9 @@ pub mod model;
 pub mod plain;
 pub mod plain_close;
 pub mod plain_image;
+pub mod program;
 pub mod record;
+pub mod record_close;
 pub mod script;
 pub mod stack;
 pub mod subject;

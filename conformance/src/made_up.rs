@@ -77,7 +77,7 @@ fn word(rng: &mut Rng) -> u32 {
 }
 
 /// A station that passes the record test.
-fn sound(rng: &mut Rng, n: u8, rule: u8) -> Station {
+pub fn sound(rng: &mut Rng, n: u8, rule: u8) -> Station {
     let rounds = ceil_log2(n);
     let stage = rng.pick(&STAGES);
     let finish = matches!(stage, Stage::VotingFinish | Stage::AwaitingFinish);

@@ -5,18 +5,15 @@ use conformance::again::ON_RECORDS;
 use conformance::by_hand;
 use conformance::generate::Rng;
 use conformance::made_up::{self, Counts, Numbers};
+use conformance::program::{self, Program, Told};
 use conformance::script::{Script, ROOM};
 use conformance::voters;
-use std::fs;
-use std::io::{self, Read, Write};
-use std::path::Path;
-use std::process::{Command, ExitCode, Stdio};
+use std::process::ExitCode;
 use std::time::Instant;
 
 const SEED: u64 = 20_261_116;
 const SCRIPTS: usize = 60;
-const PROGRAM: &str = "target/bin/lent_case";
-const CRATE: &str = "crates/lent_case";
+const PROGRAM: Program = Program { name: "lent_case" };
 
 /// Numbers that an event, LOOK or a look at a ballot of a made-up record has to meet, and RUN's statuses under small limits.
 const EVENTS: [usize; 14] = [0, 1, 2, 3, 4, 5, 6, 7, 8, 9, 10, 11, 12, 42];
@@ -27,40 +24,19 @@ const RUNS: [usize; 2] = [0, 26];
 const LEAST: usize = 20;
 
 fn main() -> ExitCode {
-    let stores = std::env::args().any(|word| word == "--store");
-    let done = if stores { store() } else { compare() };
-    match done {
-        Ok(told) => {
-            println!("{told}");
-            ExitCode::SUCCESS
-        }
-        Err(why) => {
-            println!("DIFFERENCE: {why}");
-            ExitCode::FAILURE
-        }
-    }
+    program::main(store, compare)
 }
 
-fn file(name: &str) -> std::path::PathBuf {
-    Path::new(env!("CARGO_MANIFEST_DIR")).join("..").join(name)
-}
-
-fn told(what: &str) -> impl Fn(io::Error) -> String + '_ {
-    move |error| format!("{what}: {error}")
-}
-
-fn store() -> Result<String, String> {
+fn store() -> Told {
     let script = by_hand::script();
-    fs::write(file(CRATE).join("stdin"), &script.bytes).map_err(told("stdin"))?;
-    fs::write(file(CRATE).join("stdout"), &script.text).map_err(told("stdout"))?;
+    PROGRAM.store(&script.bytes, script.text.as_bytes())?;
     Ok(format!("stored: a script of {} bytes, {} lines of answers", script.bytes.len(), script.lines.len()))
 }
 
-fn compare() -> Result<String, String> {
+fn compare() -> Told {
     let start = Instant::now();
     let stored = by_hand::script();
-    same_file("stdin", &stored.bytes)?;
-    same_file("stdout", stored.text.as_bytes())?;
+    PROGRAM.has_stored(&stored.bytes, stored.text.as_bytes())?;
     run(&stored)?;
     let mut rng = Rng::new(SEED);
     let mut counts = Counts::default();
@@ -109,18 +85,10 @@ fn met_often(counts: &Counts) -> Result<(), String> {
     }
 }
 
-fn same_file(name: &str, expected: &[u8]) -> Result<(), String> {
-    let stored = fs::read(file(CRATE).join(name)).map_err(told(name))?;
-    match stored == expected {
-        true => Ok(()),
-        false => Err(format!("{CRATE}/{name} is not what by_hand.rs says; `lent_case --store` writes it")),
-    }
-}
-
 /// The program's text for a script is document 01's, byte by byte.
 fn run(script: &Script) -> Result<(), String> {
     assert!(script.bytes.len() <= ROOM, "the script is longer than the program reads");
-    let text = written(&script.bytes).map_err(told(PROGRAM))?;
+    let text = PROGRAM.written(&script.bytes)?;
     if text == script.text.as_bytes() {
         return Ok(());
     }
@@ -130,18 +98,4 @@ fn run(script: &Script) -> Result<(), String> {
     let told = String::from_utf8_lossy(told);
     let (command, record) = script.lines.get(line).ok_or("a line too many")?;
     Err(format!("line {}\n  document 01: {due}\n  the program: {told}\n  {command}\n  on {record:?}", line + 1))
-}
-
-fn written(script: &[u8]) -> io::Result<Vec<u8>> {
-    let mut program = Command::new(file(PROGRAM)).stdin(Stdio::piped()).stdout(Stdio::piped()).spawn()?;
-    let mut input = program.stdin.take().expect("a pipe to it");
-    let mut output = program.stdout.take().expect("a pipe from it");
-    let mut text = Vec::new();
-    std::thread::scope(|scope| {
-        let wrote = scope.spawn(move || input.write_all(script));
-        let read = output.read_to_end(&mut text);
-        wrote.join().expect("the script is written").and(read)
-    })?;
-    program.wait()?;
-    Ok(text)
 }

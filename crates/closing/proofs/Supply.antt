@@ -2,10 +2,12 @@
 -- shows the play; the bit of a reply was cast, since a station that awaits a ballot voted in it. Assumes nothing.
 use Prim.Native.Nat.{ℕ, _<_}
 use mathlib.Core.Path.{_≡_, refl, sym, subst, _∙_, ap}
+use mathlib.Core.Logic.{_↔_}
 use mathlib.Core.Bool.{Bool, true, false, cond, not, _&&_}
 use mathlib.Core.Option.{Option, none, some, Option·none-ne-some, Option·some-injective}
 use lib.Dec.{eqb}
 use borrow.Author.Tests.{eqb-true, lt-ltb}
+use Rattle.basics.specs.Tests.{first-met}
 use Rattle.basics.specs.Below.{any-below}
 use Rattle.basics.proofs.Bools.{by-bool, no-clash, and-true, not-false→true, not-true→false, beq-same}
 use Rattle.basics.proofs.Below.{any-true}
@@ -14,12 +16,11 @@ use Rattle.consensus.specs.Events.{Event, claim, deliver, step, lose, answer, H
 use Rattle.consensus.specs.State as play
 use Rattle.consensus.specs.Rules.{is-bit, number, after}
 use Rattle.consensus.specs.Rules as rules
-use Rattle.consensus.specs.Terms.{Claims-fit, decision, Put-in, Lost, Decided, Supplied}
+use Rattle.consensus.specs.Terms.{Claims-fit, Put-in, Lost, Decided, Supplied}
 use Rattle.consensus.specs.Told as told-of
 use Rattle.consensus.proofs.Invariant.{Stage-ok}
 use Rattle.consensus.proofs.Reached.{reached}
 use Rattle.consensus.proofs.Accepted.{put-in-shown, lost-shown}
-use Rattle.consensus.proofs.Told.{decided-shown, shown-decided}
 use Rattle.consensus.proofs.Ballots.{in-bounds}
 use Rattle.consensus.proofs.Beginnings.{itself}
 use Rattle.consensus.proofs.Never.{never-refused}
@@ -33,6 +34,7 @@ use Rattle.event.specs.Places.{step-ballot}
 use Rattle.settlement.specs.declared.record.Settlement.{Settlement}
 use Rattle.settlement.specs.Record.{entry, ballot}
 use Rattle.settlement.specs.Events.{played}
+use Rattle.settlement.specs.Look.{looked}
 use Rattle.settlement.specs.Link.{record-after, stage-of}
 use Rattle.settlement.proofs.Link.Linked.{Linked, cast-some}
 use Rattle.settlement.proofs.Link.Numbers.{idle-same, ballot-of-round, ballot-answered}
@@ -72,20 +74,6 @@ pub record Left-after (o : Opening) (s : ℕ) (g : History) : Type 0 where
   pub put-in : Put-in o s claim g
   pub live : Lost o s g → ⊥
   pub undecided : (w : ℕ) → Decided o s w g → ⊥
-
-decision-same : (x : Stage) (j k d v : ℕ) → decision (stage-of x j k d v) ≡ cond (is-decided x) (some v) none
-decision-same Idle j k d v = refl
-decision-same Waiting j k d v = refl
-decision-same Voting j k d v = refl
-decision-same Awaiting j k d v = refl
-decision-same Seeking j k d v = refl
-decision-same FinishVoting j k d v = refl
-decision-same FinishAwaiting j k d v = refl
-decision-same Has-decided j k d v = refl
-
-not-decided : (b : Bool) (v w : ℕ) → b ≡ false → cond b (some v) none ≡ some w → ⊥
-not-decided true v w e q = no-clash true refl e
-not-decided false v w e q = Option·none-ne-some w q
 
 -- ---- the awaited ballot, by stage
 
@@ -165,9 +153,13 @@ module _ (o : Opening) (op : Openable o) (g : History) (fit : Claims-fit g) wher
     abbrev t : Station
     t = entry r s
 
-    decision-shown : decision (st .station s .stage) ≡ cond (is-decided (t .stage)) (some (t .decision)) none
-    decision-shown =
-        ap decision (sym (linked .entries s below .stage)) ∙ decision-same (t .stage) (t .cursor) (t .round) (t .word) (t .decision)
+    -- LOOK says whether it has decided
+    look-here : looked r s .decided ≡ is-decided (t .stage)
+    unfolding looked first-met
+    look-here = rw (sound .passes, lt-ltb s (r .count) (rw count-same below))
+
+    looks : (looked r s .decided ≡ true) ↔ ((v : ℕ) × Decided o s v g)
+    looks = demands .demand3 o op g fit .told g (itself g) .look-exactly s
 
     claimed-shown : not-idle (t .stage) ≡ play.claimed st s
     claimed-shown = idle-same o op r st linked (reached o g) s below
@@ -182,8 +174,7 @@ module _ (o : Opening) (op : Openable o) (g : History) (fit : Claims-fit g) wher
           claim = play.claim-of st s;
           put-in = put-in-shown o s _ g .1 (sym claimed-shown ∙ y .0, refl);
           live = λ l. no-clash (t .lost) (linked .entries s below .lost ∙ lost-shown o s g .0 l) (not-true→false _ (x .0));
-          undecided = λ w d.
-              not-decided (is-decided (t .stage)) (t .decision) w (not-true→false _ (y .1)) (sym decision-shown ∙ decided-shown o s w g d);
+          undecided = λ w d. no-clash (is-decided (t .stage)) (sym look-here ∙ looks .1 (w, d)) (not-true→false _ (y .1));
         }
 
     -- one that put in a claim and is live, but not left, has decided
@@ -197,7 +188,7 @@ module _ (o : Opening) (op : Openable o) (g : History) (fit : Claims-fit g) wher
         claimed-here = claimed-shown ∙ put-in-shown o s v g .0 p .0
 
         yes-case : is-decided (t .stage) ≡ true → (w : ℕ) × Decided o s w g
-        yes-case d = (t .decision, shown-decided o s (t .decision) g (decision-shown ∙ ap (λ (b : Bool). cond b (some (t .decision)) none) d))
+        yes-case d = looks .0 (look-here ∙ d)
 
     pub told-left : Left-after o s g → left r s ≡ true
     told-left x =
