@@ -1,18 +1,24 @@
 -- The closing log of a settlement reached from an opening is accepted whole and leaves nobody undecided: one that were left after all passes would have
 -- taken as many supplied steps as demand 3 allows, and its next turn would be one more. Assumes nothing.
 use Prim.Native.Nat.{ℕ, _<_, _≤_}
-use mathlib.Core.Path.{_≡_, sym, subst, _∙_, ap}
-use mathlib.Core.Bool.{Bool, true, false, _||_}
+use mathlib.Core.Path.{_≡_, refl, sym, subst, _∙_, ap}
+use mathlib.Core.Bool.{Bool, true, false, cond, _||_}
 use native.Mathlib.Omega.{arith}
+use lib.Dec.{ltb}
+use lib.ListN.{length}
+use borrow.Author.Tests.{le-ltb}
+use Rattle.basics.specs.Tests.{refuse, first-met}
 use Rattle.basics.proofs.Bools.{by-bool}
 use Rattle.basics.proofs.Below.{none-below}
 use Rattle.consensus.specs.Events.{Event, claim, step, History, start, _▷_, Opening, Openable}
+use Rattle.consensus.specs.Rules.{as-bit}
 use Rattle.consensus.specs.Terms.{Beginning, Claims-fit, Put-in, Lost, Decided, longest}
 use Rattle.consensus.specs.Told.{followed-by}
 use Rattle.settlement.specs.Link.{record-after}
 use Rattle.settlement.proofs.Link.Demands.{demands}
 use Rattle.closing.specs.Turn.{left, some-left}
 use Rattle.closing.specs.Closing.{Closing, step-bound, closing, stuck}
+use Rattle.closing.specs.Close.{closing-bytes, close-number}
 use Rattle.closing.specs.Demand.{steps-of, made, whole, bound, Closes}
 use Rattle.closing.proofs.Supply.{Fair, count-same, left-told, unless-left}
 use Rattle.closing.proofs.Steps.{All-fair, fair-beginning, fair-fits, fair-longest, fair-lost, happened-later, fair-bound}
@@ -78,9 +84,20 @@ module _ (o : Opening) (op : Openable o) (h : History) (fit : Claims-fit h) (pre
   unfolding stuck
   never-stuck = ap (λ (c : Closing). c .refused || some-left (c .settlement)) (led .comes) ∙ none-left
 
+  same-choice : (b : Bool) → refuse b 30 0 ≡ cond b 30 0
+  same-choice true = refl
+  same-choice false = refl
+
+  close-numbers : (p room : ℕ) → p ≤ 1 → as-bit p ≡ preferred
+      → close-number (record-after o h) p room ≡ cond (ltb room (length (closing-bytes (record-after o h) preferred))) 30 0
+  unfolding close-number first-met
+  close-numbers p room bit e = rw (demands .in-ranges o op h fit .no-fault, le-ltb 1 p bit, e, never-stuck)
+      (same-choice (ltb room (length (closing-bytes (record-after o h) preferred))))
+
   holds : Closes o h preferred
   holds = record {
     never-43 = never-stuck;
+    numbers = close-numbers;
     accepted = λ g e b. at-beginning g e b .accepted;
     ends = ap (λ (c : Closing). c .settlement) (led .comes) ∙ ap (record-after o) (sym same-whole);
     decided = λ s v p live. subst (λ (g : History). (w : ℕ) × Decided o s w g) (sym same-whole) (everyone-decided s v p live);
