@@ -1,11 +1,13 @@
 -- The bound that a closing log goes by is demand 3's: the longest claim in the record is the longest claim put in. Assumes nothing.
 use Prim.Native.Nat.{ℕ, zero, suc, _<_, _≤_, zero-le}
 use mathlib.Core.Path.{_≡_, refl, sym, subst, _∙_, ap, ap₂}
-use mathlib.Core.Logic.{inl, inr, ⊎-elim}
+use mathlib.Core.Logic.{_⊎_, inl, inr, ⊎-elim}
 use mathlib.Core.Bool.{Bool, cond}
-use native.Mathlib.Nat.{le-trans, le-of-eq, le-antisymm, le-max-left, le-max-right, max-le, le-refl, le-step, le-of-suc-le-suc, eq-or-lt-of-le, not-suc-le-zero}
-use lib.Dec.{eqb}
-use Rattle.basics.proofs.Bools.{cond-ind}
+use native.Mathlib.Nat.{le-trans, le-of-eq, le-antisymm, le-of-lt, le-refl, le-step, le-of-suc-le-suc, eq-or-lt-of-le, not-suc-le-zero}
+use native.Mathlib.Nat.{le-max-left, le-max-right, max-le, max-eq-left, max-eq-right}
+use lib.Dec.{eqb, ltb}
+use borrow.Author.Tests.{ltb-true, ltb-false}
+use Rattle.basics.proofs.Bools.{by-bool, cond-ind}
 use Rattle.bits.specs.Digits.{bit-length}
 use Rattle.bits.specs.Log.{ceil-log2}
 use Rattle.consensus.specs.Events.{Event, claim, History, start, _▷_, Rule, rule-1, rule-2, Opening, Openable}
@@ -28,7 +30,7 @@ use Rattle.closing.specs.Demand.{bound}
 
 -- ---- the greatest of n numbers
 
-greatest-from : (n : ℕ) (f : ℕ → ℕ) (i : ℕ) → i < n → f i ≤ greatest-below n f
+pub greatest-from : (n : ℕ) (f : ℕ → ℕ) (i : ℕ) → i < n → f i ≤ greatest-below n f
 unfolding greatest-below
 greatest-from zero f i l = absurd (not-suc-le-zero l)
 greatest-from (suc n) f i l =
@@ -40,6 +42,17 @@ greatest-to : (n : ℕ) (f : ℕ → ℕ) (k : ℕ) → ((i : ℕ) → i < n →
 unfolding greatest-below
 greatest-to zero f k all = zero-le
 greatest-to (suc n) f k all = max-le (greatest-to n f k (λ i l. all i (le-step l))) (all n (le-refl (suc n)))
+
+-- it is one of them, or 0
+pub greatest-met : (n : ℕ) (f : ℕ → ℕ) → (greatest-below n f ≡ 0) ⊎ ((i : ℕ) × (i < n) × (f i ≡ greatest-below n f))
+unfolding greatest-below
+greatest-met zero f = inl refl
+greatest-met (suc n) f =
+    by-bool (ltb (greatest-below n f) (f n))
+    (λ l. inr (n, le-refl (suc n), sym (max-eq-right (le-of-lt (ltb-true _ (f n) l)))))
+    (λ l.
+    let e = max-eq-left (ltb-false _ (f n) l) in
+    ⊎-elim (λ z. inl (e ∙ z)) (λ x. inr (x .0, le-step (x .1), x .2 ∙ sym e)) (greatest-met n f))
 
 -- ---- who put in a claim is a station
 

@@ -93,6 +93,10 @@ lost-holds = two 1 (lost Waiting 1 5 0 0 0 0) (live Seeking 2 6 1 0 0 0)
 abbrev idle-holds : Settlement
 idle-holds = three (lost Waiting 0 5 0 0 0 0) (live Idle 1 0 0 0 0 0) (live Seeking 4 7 2 1 0 0)
 
+-- made up: the claim of 0, which is lost, is held by entry 2 of two alone; station 1 seeks from 0 on, with the word 1
+abbrev past-holds : Settlement
+past-holds = with-station 2 (live Waiting 1 7 0 0 0 0) (two 1 (lost Waiting 0 5 0 0 0 0) (live Seeking 2 6 0 0 1 0))
+
 -- made up: the claim of 1 is held by 1, which is idle
 abbrev not-put-in : Settlement
 not-put-in = two 1 (live Seeking 1 5 1 0 0 0) (live Idle 2 0 0 0 0 0)
@@ -100,6 +104,14 @@ not-put-in = two 1 (live Seeking 1 5 1 0 0 0) (live Idle 2 0 0 0 0 0)
 -- station 1 awaits ballot 0, where only 1 was cast, and lacks the claim of 0
 abbrev awaits-1 : Settlement
 awaits-1 = with-ballot 0 (voted-by 0 2 false false) (two 1 (live Decided 1 5 0 0 0 5) (live Awaiting 2 6 1 0 0 0))
+
+-- station 1 cast 1 in ballot 0 and is lost, and station 0 holds both claims
+abbrev lost-voter : Settlement
+lost-voter = with-ballot 0 (voted-by 0 2 false false) (two 1 (live Waiting 3 5 0 0 0 0) (lost Awaiting 2 6 1 0 0 0))
+
+-- made up: station 0 of two awaits ballot 0, where it cast 0 and entry 2 cast 1
+abbrev past-voter : Settlement
+past-voter = with-ballot 0 (voted-by 1 4 false false) (two 1 (live Awaiting 3 5 0 0 0 0) (live Decided 3 6 1 0 1 6))
 
 -- station 0 awaits ballot 0, which has its answer
 abbrev has-answer : Settlement
@@ -115,6 +127,13 @@ in-six = with-ballot 1 (voted-by 1 0 true false) (one 2 (live FinishAwaiting 1 0
 
 abbrev in-seven : Settlement
 in-seven = one 2 (live FinishVoting 1 0 0 0 2 0)
+
+-- made up: the latter beside an idle station with a long claim, where it takes 8 steps and its bound is 7; and with a long claim put in by entry 1 of one
+abbrev stale-longest : Settlement
+stale-longest = two 2 (live FinishVoting 1 0 0 0 2 0) (live Idle 0 2147483648 0 0 0 0)
+
+abbrev past-longest : Settlement
+past-longest = with-station 1 (claimed 2147483648) in-seven
 
 -- made up: awaiting in a ballot where nobody cast, by claim and beside a station that can go; taking answer 0 from ballot 63; seeking station 1 for ever
 abbrev nobody-cast : Settlement
@@ -179,10 +198,15 @@ logs =
     -- a claim that only a lost station holds, or an idle one, left out; a claim or a STEP for a lost station
     ∷ closes lost-holds 0 1 (hand 0 1 ++ go 1)
     ∷ closes idle-holds 0 1 (hand 0 2 ++ go 2)
+    -- a claim that only an entry from n on holds, delivered
+    ∷ closes past-holds 0 1 (go 1)
     -- a claim that is held and was not put in: its DELIVER would be refused
     ∷ closes not-put-in 0 1 (go 0)
     -- the answer before the claims, or none because the preferred bit was not cast
     ∷ closes awaits-1 0 1 (hand 0 1 ++ say 0 1 ++ go 1 ++ go 1 ++ go 1)
+    -- a bit that only a lost station cast, not counted as cast; nor one that only an entry from n on cast
+    ∷ closes lost-voter 1 1 (go 0 ++ go 0 ++ say 0 1 ++ go 0 ++ go 0) ∷ closes lost-voter 0 1 (go 0 ++ go 0 ++ say 0 0 ++ go 0 ++ go 0 ++ go 0)
+    ∷ closes past-voter 1 1 (say 0 1 ++ go 0 ++ go 0) ∷ closes past-voter 0 1 (say 0 0 ++ go 0 ++ go 0 ++ go 0)
     -- an answer once more, which would be accepted
     ∷ closes has-answer 0 1 (go 0 ++ go 0 ++ go 0)
     -- K without the claims of lost stations: 12 steps are more than 1 + 1(2 + 4)
@@ -208,6 +232,8 @@ refusals =
     -- a station uses up its bound: for ever, and by one step
     ∷ refuses for-ever 0 0 43 ∷ refuses for-ever 1 99 43
     ∷ refuses in-seven 0 0 43 ∷ refuses in-seven 1 99 43
+    -- K with a claim that was not put in, or with one of an entry from n on: both would close
+    ∷ refuses stale-longest 0 99 43 ∷ refuses past-longest 0 99 43
     -- 30: one byte too few for 61, and none
     ∷ refuses both 0 60 30 ∷ refuses both 1 60 30 ∷ refuses both 0 0 30 ∷ refuses lost-holds 0 8 30
     ∷ []
