@@ -1,11 +1,10 @@
 -- CLOSE as other languages call it, computed. Assumes nothing.
-use mathlib.Core.Path.{_≡_, refl}
+use mathlib.Core.Path.{refl}
 use Rattle.basics.specs.Below.{any-below}
 use Rattle.basics.specs.Tests.{first-met}
 use Rattle.bits.specs.Digits.{bit, binary-digits, digits-in, bit-length}
 use Rattle.bits.specs.Log.{ceil-log2, least-from}
 use Rattle.bits.specs.Words.{with-bit, word-with-bit, member, insert, low-agree}
-use Rattle.consensus.specs.Demand3.{most-steps}
 use Rattle.event.specs.Step.{started, bit-taken, finish-taken, entry-after-seek, sought, stepped, voted}
 use Rattle.event.specs.Change.{own-after, ballot-after}
 use Rattle.settlement.specs.Fault.{station-fault, fault}

@@ -1,8 +1,8 @@
 -- CLOSE as other languages call it, byte by byte and number by number (`include/dagmuize.h`). Assumes nothing.
 use Prim.Native.Nat.{ℕ}
 use mathlib.Core.Path.{_≡_}
-use mathlib.Core.List.{List, [], _∷_, _++_}
-use lib.ListN.{length, replicate}
+use mathlib.Core.List.{List, [], _∷_}
+use lib.ListN.{replicate}
 use Rattle.closing_exports.specs.Exports.{close-answer, close-after}
 
 -- one station by station, which put in claim 5; then the same cut inside its last field

@@ -1,6 +1,4 @@
 -- `closing_exports::dagmuize_close`: RUN's promise gives the settlement, and CLOSE's the rest; its count fits in four bytes. Assumes nothing.
-use mathlib.Core.Path.{_≡_, sym, _∙_}
-use native.Mathlib.Omega.{arith}
 use borrow.Author.Tests.{ne-eqb}
 use borrow.Author.Needs.{needs}
 use Rattle.closing_exports.specs.Exports.{close-answer, close-after}

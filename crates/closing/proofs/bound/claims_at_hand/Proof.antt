@@ -15,7 +15,7 @@ use Rattle.bits.proofs.Masks.{member-none, member-same, member-other}
 use Rattle.entry.specs.Stages.{not-idle}
 use Rattle.settlement.specs.declared.record.Settlement.{Settlement}
 use Rattle.settlement.specs.Record.{entry}
-use Rattle.closing.specs.Turn.{holds, at-hand}
+use Rattle.closing.specs.Turn.{holds}
 use Rattle.closing.proofs.bound.claims_at_hand.Statement.{statement}
 use Rattle.closing.proofs.bound.claims_at_hand.Tie as tie
 

@@ -1,5 +1,5 @@
 -- `closing::bound::longest_put`: `most` is the greatest at the stations passed; the measure is what is left of them. Assumes nothing.
-use Prim.Native.Nat.{ℕ, _≤_, _-_, max}
+use Prim.Native.Nat.{ℕ, _≤_, _-_}
 use mathlib.Core.Path.{_≡_, refl, ap, _∙_}
 use native.Mathlib.Omega.{arith}
 use native.Mathlib.Numerals.{add-one}

@@ -1,5 +1,5 @@
 -- `closing::bound::put_length`: the flag is the definition's test; a claim has at most 32 digits. Assumes nothing.
-use mathlib.Core.Path.{_≡_, sym, _∙_}
+use mathlib.Core.Path.{sym, _∙_}
 use native.Mathlib.Omega.{arith}
 use borrow.Author.Needs.{needs}
 use Rattle.bits.specs.Words.{claim-bits}

@@ -1,5 +1,5 @@
 -- `closing::turn::claimer`: the own claim comes first, then the lowest that is lacked. Assumes nothing.
-use mathlib.Core.Path.{_≡_, refl, sym, _∙_}
+use mathlib.Core.Path.{refl, sym, _∙_}
 use mathlib.Core.Logic.{inl, inr}
 use native.Mathlib.Omega.{arith}
 use Rattle.closing.proofs.Sets.{none-in}
