@@ -27,8 +27,10 @@ pub mod Seeking
 pub mod Onwards
 pub mod Going
 -- On every record:
+--     Needed      each event of a closing log is due where it stands, in words
 --     Laws        what the document says of CLOSE, in its words and numbers
 --     Examples    closing logs byte by byte
+pub mod Needed
 pub mod Laws
 pub mod Examples
 -- From an opening:
