@@ -17,7 +17,7 @@ sets-append l i (a ∷ s) t =
     ap (λ (k : ℕ). sets (sets (set l i a) (suc i) s) k t) (add-suc i (length s) ∙ sym (suc-add i (length s)))
     ∙ sets-append (set l i a) (suc i) s t
 
-sets-past : (l : List ℕ) (i : ℕ) (t : List ℕ) → length l ≤ i → sets l i t ≡ l
+pub sets-past : (l : List ℕ) (i : ℕ) (t : List ℕ) → length l ≤ i → sets l i t ≡ l
 sets-past l i [] h = refl
 sets-past l i (a ∷ t) h = rw (set-out l i a h) (sets-past l (suc i) t (omega arith))
 

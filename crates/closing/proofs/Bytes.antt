@@ -12,7 +12,7 @@ use Rattle.consensus.specs.Events.{Event, History, start, _▷_, Opening, Opena
 use Rattle.consensus.specs.Rules.{number, after}
 use Rattle.consensus.specs.Terms.{Beginning, Claims-fit}
 use Rattle.consensus.specs.Told.{followed-by}
-use Rattle.consensus.proofs.Beginnings.{itself}
+use Rattle.consensus.proofs.Beginnings.{itself, not-empty}
 use Rattle.settlement.specs.Link.{record-after}
 use Rattle.settlement.proofs.Link.Demands.{demands}
 use Rattle.field.proofs.Found.{within}
@@ -28,15 +28,12 @@ use Rattle.closing.proofs.Spelled.{spelled}
 
 -- ---- a list and what follows it
 
-not-start : (g : History) (e : Event) → (g ▷ e) ≡ start → ⊥
-not-start g e q = let z : _≡_ {A = ℕ} 0 1 = cc in omega arith
-
 later-fits : (h l : History) → Claims-fit (followed-by h l) → Claims-fit l
 later-fits h start fit = tt
 later-fits h (l ▷ e) fit = (later-fits h l (fit .0), fit .1)
 
 begins-on : (h g l : History) (e : Event) → Beginning (g ▷ e) l → Beginning (followed-by h g) (followed-by h l)
-begins-on h g start e b = absurd (not-start g e b)
+begins-on h g start e b = absurd (not-empty g e b)
 begins-on h g (l ▷ x) e (inl b) =
     let same : g ≡ l = cc in
     inr (subst (λ (k : History). Beginning (followed-by h g) (followed-by h k)) same (itself (followed-by h g)))

@@ -1,35 +1,18 @@
--- Proofs about the closing log. What code and theorem share:
+-- Proofs about the closing log. What is due, which the code of `close` goes by too:
 --     Passing     the numbers of a range that pass a test
 --     Handed      what an event of a turn leaves for the rest of it
 --     Due         what is due at a station's turn: the first of its events, and what is due after it
 pub mod Passing
 pub mod Handed
 pub mod Due
--- The code:
---     Sets        masks of stations, bit by bit
---     Placed      a field written from a place on
---     Size        how long a closing log can be
---     Measured    the answers of CLOSE
---     Hand        the mask of the claims at hand
---     Sound       the record test after an event
---     Delivering  the DELIVER of a claim that is due
---     Seeking     the STEP of a station that seeks
---     Onwards     what is left of the closing log
---     Going       each way through the loop
-pub mod Sets
-pub mod Placed
-pub mod Size
-pub mod Measured
-pub mod Hand
-pub mod Sound
-pub mod Delivering
-pub mod Seeking
-pub mod Onwards
-pub mod Going
 -- On every record:
---     Needed      each event of a closing log is due where it stands, in words
+--     Kept        what a closing log leaves as it was
+--     Counted     the STEPs of one station in it
+--     Needed      each event of it is what the station whose turn it is needs next, in words
 --     Laws        what the document says of CLOSE, in its words and numbers
 --     Examples    closing logs byte by byte
+pub mod Kept
+pub mod Counted
 pub mod Needed
 pub mod Laws
 pub mod Examples

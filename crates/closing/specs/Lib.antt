@@ -5,16 +5,9 @@
 --     Demand    what holds of it for a settlement reached from an opening
 --     Laws      what the document says of every record, in its words and numbers
 --     Examples  closing logs byte by byte
--- And what the code goes by, which a reader may skip:
---     Masks     sets of stations as masks
---     Due       what is due at a station's turn, found on entries and masks
---     Played    what the function that plays a closing log promises
 pub mod Turn
 pub mod Closing
 pub mod Close
 pub mod Demand
 pub mod Laws
 pub mod Examples
-pub mod Masks
-pub mod Due
-pub mod Played

@@ -1,9 +1,1 @@
-// CLOSE: the log that brings every live, claimed station to its decision (document 02, A.3), written into a buffer that the caller lends.
-// Every public function is total, and equals a definition of specs/.
-
-mod bound;
-pub mod close;
-mod mask;
-mod play;
-mod turn;
-mod writer;
+// No code: the closing log (document 02, A.3), turn by turn, and the proofs about it. The crate `close` writes it.

@@ -3,7 +3,7 @@ ghost use mathlib.Core.Path.{_≡_};
 ghost use lib.ListN.{length};
 use crate::print;
 use basics::buffer::byte_at;
-use closing::close::close;
+use close::close::close;
 use image::layout::IMAGE_BYTES;
 use settlement::record::Settlement;
 use whole_image::record::read_record;

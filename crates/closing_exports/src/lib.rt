@@ -3,7 +3,7 @@
 ghost use mathlib.Core.Path.{_≡_};
 ghost use lib.ListN.{length};
 ghost use Rattle.closing_exports.specs.Exports.{close-answer, close-after};
-use closing::close::close;
+use close::close::close;
 use log::run::run;
 
 // RUN, and the closing log of the settlement that it plays to: 4,294,967,296 times the number, and the count.

@@ -30,7 +30,7 @@ last-or : Event → History → Event
 last-or e start = e
 last-or e (h ▷ f) = f
 
-not-empty : (h : History) (e : Event) → (h ▷ e) ≡ start → ⊥
+pub not-empty : (h : History) (e : Event) → (h ▷ e) ≡ start → ⊥
 not-empty h e q = subst kind q tt
   where
     kind : History → Type 0

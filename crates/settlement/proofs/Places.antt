@@ -66,7 +66,7 @@ next-below n j some = cond-ind (λ (x : ℕ). x < n) (eqb n 0) _ _ (λ e. some) 
 beside-below : (n j : ℕ) (g : Stage) → j < n → step-beside n j g < n
 beside-below n j g below = cond-ind (λ (x : ℕ). x < n) (at Seeking g) _ _ (λ e. next-below n j (omega arith)) (λ e. below)
 
-ballot-below : (rule k : ℕ) (g : Stage) → ((in-round g || on-finish g) ≡ true → k < claim-bits) → step-ballot rule k g < ballot-entries
+pub ballot-below : (rule k : ℕ) (g : Stage) → ((in-round g || on-finish g) ≡ true → k < claim-bits) → step-ballot rule k g < ballot-entries
 ballot-below rule k g low =
     cond-ind (λ (x : ℕ). x < ballot-entries) (on-finish g) _ _ (λ e. let l = low (either e) in omega arith)
     (λ e.

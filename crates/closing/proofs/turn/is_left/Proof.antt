@@ -1,9 +1,0 @@
--- `closing::turn::is_left`: each operand is a clause of the definition. Assumes nothing.
-use Rattle.closing.proofs.turn.is_left.Statement.{statement}
-use Rattle.closing.proofs.turn.is_left.Tie as tie
-
-returns : tie.Need-returns
-returns c = rw (c .is-decided .ensures, c .before .not-idle .ensures)
-
-pub is-left-spec : {M : Type 1} → statement M
-is-left-spec = tie.close (tie.spec (λ not-idle-requires κs. tt) (λ is-decided-requires κs. tt) returns)
