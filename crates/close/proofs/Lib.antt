@@ -1,7 +1,7 @@
 -- Proofs of the code of CLOSE:
 --     Sets        masks of stations, bit by bit
 --     Placed      a field written from a place on
---     Size        how long a closing log can be
+--     Few         how many events a turn can have
 --     Measured    the answers of CLOSE
 --     Hand        the mask of the claims at hand
 --     Sound       the record test after an event
@@ -11,7 +11,7 @@
 --     Going       each way through the loop
 pub mod Sets
 pub mod Placed
-pub mod Size
+pub mod Few
 pub mod Measured
 pub mod Hand
 pub mod Sound

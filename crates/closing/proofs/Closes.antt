@@ -20,10 +20,11 @@ use Rattle.closing.specs.Turn.{left, some-left}
 use Rattle.closing.specs.Closing.{Closing, step-bound, closing, stuck}
 use Rattle.closing.specs.Close.{closing-bytes, close-number}
 use Rattle.closing.specs.Demand.{steps-of, made, whole, bound, Closes}
-use Rattle.closing.proofs.Supply.{Fair, count-same, left-told, unless-left}
+use Rattle.closing.proofs.Short.{closing-short}
+use Rattle.closing.proofs.Supply.{Fair, sound, count-same, left-told, unless-left}
 use Rattle.closing.proofs.Steps.{All-fair, fair-beginning, fair-fits, fair-longest, fair-lost, happened-later, fair-bound}
 use Rattle.closing.proofs.Turns.{Led, turned, all-passes}
-use Rattle.closing.proofs.SameBound.{put-in-station, same-bound}
+use Rattle.closing.proofs.SameBound.{put-in-station, same-bound, bound-small}
 
 module _ (o : Opening) (op : Openable o) (h : History) (fit : Claims-fit h) (preferred : Bool) where
   led : Led o h (λ p. Unit {0}) (step-bound (record-after o h)) start (made o h preferred)
@@ -94,10 +95,18 @@ module _ (o : Opening) (op : Openable o) (h : History) (fit : Claims-fit h) (pre
   close-numbers p room bit e = rw (demands .in-ranges o op h fit .no-fault, le-ltb 1 p bit, e, never-stuck)
       (same-choice (ltb room (length (closing-bytes (record-after o h) preferred))))
 
+  few-bytes : length (closing-bytes (record-after o h) preferred) ≤ 153024
+  few-bytes =
+      let whole = sound o op h fit in
+      let most = bound-small o op h fit in
+      omega (arith, closing-short (record-after o h) preferred (whole .stations) (whole .ballots))
+
   holds : Closes o h preferred
   holds = record {
     never-43 = never-stuck;
     numbers = close-numbers;
+    short = few-bytes;
+    enough = λ p room bit e l. close-numbers p room bit e ∙ rw (le-ltb room (length (closing-bytes (record-after o h) preferred)) (let b = few-bytes in omega arith));
     accepted = λ g e b. at-beginning g e b .accepted;
     ends = ap (λ (c : Closing). c .settlement) (led .comes) ∙ ap (record-after o) (sym same-whole);
     decided = λ s v p live. subst (λ (g : History). (w : ℕ) × Decided o s w g) (sym same-whole) (everyone-decided s v p live);

@@ -9,11 +9,13 @@ pub mod Due
 --     Kept        what a closing log leaves as it was
 --     Counted     the STEPs of one station in it
 --     Needed      each event of it is what the station whose turn it is needs next, in words
+--     Short       how many bytes it can have
 --     Laws        what the document says of CLOSE, in its words and numbers
 --     Examples    closing logs byte by byte
 pub mod Kept
 pub mod Counted
 pub mod Needed
+pub mod Short
 pub mod Laws
 pub mod Examples
 -- From an opening:

@@ -1,15 +1,17 @@
 -- The bound that a closing log goes by is demand 3's: the longest claim in the record is the longest claim put in. Assumes nothing.
-use Prim.Native.Nat.{ℕ, zero, suc, _<_, _≤_, zero-le}
+use Prim.Native.Nat.{ℕ, zero, suc, _+_, _*_, _<_, _≤_, zero-le}
 use mathlib.Core.Path.{_≡_, refl, sym, subst, _∙_, ap, ap₂}
 use mathlib.Core.Logic.{_⊎_, inl, inr, ⊎-elim}
-use mathlib.Core.Bool.{Bool, cond}
+use mathlib.Core.Bool.{Bool, true, cond}
 use native.Mathlib.Nat.{le-trans, le-of-eq, le-antisymm, le-of-lt, le-refl, le-step, le-of-suc-le-suc, eq-or-lt-of-le, not-suc-le-zero}
-use native.Mathlib.Nat.{le-max-left, le-max-right, max-le, max-eq-left, max-eq-right}
+use native.Mathlib.Omega.{arith}
+use native.Mathlib.Nat.{mul-le-mul, le-max-left, le-max-right, max-le, max-eq-left, max-eq-right}
 use lib.Dec.{eqb, ltb}
 use borrow.Author.Tests.{ltb-true, ltb-false}
 use Rattle.basics.proofs.Bools.{by-bool, cond-ind}
 use Rattle.bits.specs.Digits.{bit-length}
 use Rattle.bits.specs.Log.{ceil-log2}
+use Rattle.bits.proofs.Log.{log-le}
 use Rattle.consensus.specs.Events.{Event, claim, History, start, _▷_, Rule, rule-1, rule-2, Opening, Openable}
 use Rattle.consensus.specs.State as play
 use Rattle.consensus.specs.Rules.{number, after}
@@ -19,12 +21,14 @@ use Rattle.consensus.proofs.Reached.{reached, claim-accepted}
 use Rattle.consensus.proofs.Accepted.{put-in-shown}
 use Rattle.consensus.proofs.Longest as longest-proofs
 use Rattle.entry.specs.Stages.{not-idle}
+use Rattle.entry.specs.Entries.{by-station}
 use Rattle.settlement.specs.declared.record.Settlement.{Settlement}
 use Rattle.settlement.specs.Record.{entry}
 use Rattle.settlement.specs.Link.{rule-number, record-after}
 use Rattle.settlement.proofs.Link.Linked.{Linked}
 use Rattle.settlement.proofs.Link.Numbers.{idle-same}
-use Rattle.settlement.proofs.Link.Demands.{linked-after}
+use Rattle.settlement.proofs.Range.{few-stations}
+use Rattle.settlement.proofs.Link.Demands.{demands, linked-after}
 use Rattle.closing.specs.Closing.{greatest-below, put-length, longest-put, step-bound}
 use Rattle.closing.specs.Demand.{bound}
 
@@ -63,6 +67,19 @@ put-in-station o s v (h ▷ e) (inr x) = claim-accepted o (after o h) s v (subst
 
 -- ---- the bound
 
+-- both factors are small
+pub small : (a b : ℕ) → a ≤ 32 → b ≤ 36 → a * b ≤ 1152
+small a b h l = mul-le-mul h l
+
+pub rounds-few : (n : ℕ) → n ≤ 32 → ceil-log2 n * (n + 2) ≤ 1152
+rounds-few n h = small _ _ (omega (arith, log-le n 5 h)) (omega arith)
+
+few-steps : (r : Settlement) → r .count ≤ 32 → longest-put r ≤ 32 → step-bound r ≤ 1153
+unfolding step-bound
+few-steps r n k =
+    cond-ind (λ (x : ℕ). x ≤ 1153) (by-station (r .rule)) _ _ (λ e. omega (arith, rounds-few (r .count) n))
+    (λ e. omega (arith, small (longest-put r) (r .count + 4) k (omega arith)))
+
 module _ (o : Opening) (op : Openable o) (h : History) (fit : Claims-fit h) where
   abbrev r : Settlement
   r = record-after o h
@@ -73,12 +90,15 @@ module _ (o : Opening) (op : Openable o) (h : History) (fit : Claims-fit h) wher
   claimed-shown : (s : ℕ) → s < o .count → not-idle (entry r s .stage) ≡ play.claimed (after o h) s
   claimed-shown s b = idle-same o op r (after o h) linked (reached o h) s b
 
-  none-longer : (s : ℕ) → s < o .count → put-length r s ≤ longest o h
-  none-longer s b =
-      cond-ind (λ (k : ℕ). k ≤ longest o h) (not-idle (entry r s .stage)) (bit-length (entry r s .claim)) 0
-      (λ e.
-      le-trans (le-of-eq (ap bit-length (linked .entries s b .claim))) (longest-proofs.claim-longest o h s (sym (claimed-shown s b) ∙ e)))
-      (λ e. zero-le)
+  -- no claim put in is longer than so
+  none-longer : (most : ℕ) → ((s : ℕ) → play.claimed (after o h) s ≡ true → bit-length (play.claim-of (after o h) s) ≤ most) → longest-put r ≤ most
+  none-longer most fits = greatest-to (r .count) (put-length r) most (λ s l. its s (subst (λ (n : ℕ). s < n) (linked .count) l))
+    where
+      its : (s : ℕ) → s < o .count → put-length r s ≤ most
+      its s b =
+          cond-ind (λ (k : ℕ). k ≤ most) (not-idle (entry r s .stage)) (bit-length (entry r s .claim)) 0
+          (λ e. le-trans (le-of-eq (ap bit-length (linked .entries s b .claim))) (fits s (sym (claimed-shown s b) ∙ e)))
+          (λ e. zero-le)
 
   -- a claim put in has its length
   put-length-is : (s v : ℕ) → Put-in o s v h → put-length r s ≡ bit-length v
@@ -97,8 +117,7 @@ module _ (o : Opening) (op : Openable o) (h : History) (fit : Claims-fit h) wher
       (longest-proofs.longest-put o h)
 
   longest-same : longest-put r ≡ longest o h
-  longest-same =
-      le-antisymm (greatest-to (r .count) (put-length r) (longest o h) (λ i l. none-longer i (subst (λ (n : ℕ). i < n) (linked .count) l))) as-long
+  longest-same = le-antisymm (none-longer (longest o h) (longest-proofs.claim-longest o h)) as-long
 
   abbrev bound-by : (x n k : ℕ) → ℕ
   bound-by x n k = cond (eqb x 1) (most-steps rule-1 n (ceil-log2 n) k) (most-steps rule-2 n (ceil-log2 n) k)
@@ -113,3 +132,7 @@ module _ (o : Opening) (op : Openable o) (h : History) (fit : Claims-fit h) wher
       ap (λ (x : ℕ). bound-by x (r .count) (longest-put r)) (linked .rule)
       ∙ by-rule (o .rule) (r .count) (longest-put r)
       ∙ ap₂ (λ (n k : ℕ). most-steps (o .rule) n (ceil-log2 n) k) (linked .count) longest-same
+
+  -- and it is small
+  pub bound-small : step-bound r ≤ 1153
+  bound-small = few-steps r (few-stations r (demands .in-ranges o op h fit .no-fault)) (none-longer 32 (longest-proofs.claim-fits o h fit))

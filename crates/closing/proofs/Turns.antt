@@ -2,7 +2,7 @@
 -- turn. So one that is left after so many passes has taken as many STEPs. Assumes nothing.
 use Prim.Native.Nat.{ℕ, zero, suc, _+_, _<_, _≤_, zero-le}
 use mathlib.Core.Path.{_≡_, refl, sym, subst, _∙_, ap}
-use mathlib.Core.Logic.{_⊎_, inl, inr, ⊎-elim}
+use mathlib.Core.Logic.{_⊎_, ⊎-elim}
 use mathlib.Core.Bool.{Bool, true, false}
 use mathlib.Core.List.{List, [], _∷_}
 use native.Mathlib.Nat.{le-refl, le-trans, eq-or-lt-of-le}
@@ -13,26 +13,14 @@ use Rattle.consensus.specs.Events.{Event, step, History, _▷_, Opening, Openab
 use Rattle.consensus.specs.Terms.{Claims-fit, is-step}
 use Rattle.consensus.specs.Told.{followed-by}
 use Rattle.settlement.specs.declared.record.Settlement.{Settlement}
-use Rattle.settlement.specs.Events.{outcome, number, effect, played}
+use Rattle.settlement.specs.Events.{number, played}
 use Rattle.settlement.specs.Link.{record-after}
-use Rattle.settlement.proofs.Refusals.{accepted-outcome}
 use Rattle.closing.specs.Turn.{left, some-left, turn-events}
 use Rattle.closing.specs.Closing.{Closing, by-outcome, and-then, turn, turns, pass, passes}
 use Rattle.closing.specs.Demand.{steps-of}
-use Rattle.closing.proofs.Due.{Due, own-due, claim-due, answer-due, step-due, some-due, Sound, first-due, still-left, turn-steps, turn-goes-on}
+use Rattle.closing.proofs.Due.{Due, some-due, step-or-not, Sound, first-due, still-left, played-effect, turn-steps, turn-goes-on}
 use Rattle.closing.proofs.Supply.{Fair, Left-after, sound, count-same, left-told, told-left, due-fair}
 use Rattle.closing.proofs.Steps.{All-fair, fair-fits, left-back, steps-grow, one-step, not-step}
-
--- what is due is the STEP, or no STEP
-step-or-not : (r : Settlement) (a : Bool) (s : ℕ) {e : Event} → Due r a s e → (e ≡ step s) ⊎ (is-step s e ≡ false)
-step-or-not r a s (own-due n) = inr refl
-step-or-not r a s (claim-due t own l e first) = inr refl
-step-or-not r a s (answer-due own full e) = inr refl
-step-or-not r a s (step-due own full e) = inl refl
-
-played-effect : (r : Settlement) (e : Event) → played r e .number ≡ 0 → played r e .settlement ≡ effect r e
-unfolding played outcome
-played-effect r e z = ap (λ x. x .settlement) (accepted-outcome (number r e) (effect r e) r z)
 
 module _ (o : Opening) (h : History) where
   -- the closing log g after the list h
@@ -122,7 +110,7 @@ module _ (o : Opening) (op : Openable o) (h : History) (fit : Claims-fit h) (a :
       by-due : ((e : Event) → is-step s e ≡ false → Due (record-of g) a s e → Turned g) → Turned g
       by-due other =
           let e = some-due (record-of g) a s in
-          ⊎-elim (λ q. by-step (subst (Due (record-of g) a s) q (e .1))) (λ n. other (e .0) n (e .1)) (step-or-not (record-of g) a s (e .1))
+          ⊎-elim (λ q. by-step (subst (Due (record-of g) a s) q (e .1))) (λ n. other (e .0) (n s) (e .1)) (step-or-not (record-of g) a s (e .1))
 
     turned-by : (l : List Event) (g : History) → All-fair o h g → left (record-of g) s ≡ true → turn-events (record-of g) a s ≡ l → Turned g
     turned-by [] g f x q =

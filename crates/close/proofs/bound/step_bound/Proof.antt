@@ -1,20 +1,11 @@
 -- `close::bound::step_bound`: the flag is the definition's test; R is at most 5 and K at most 32. Assumes nothing.
-use Prim.Native.Nat.{ℕ, _+_, _*_, _≤_}
+use Prim.Native.Nat.{_+_}
 use native.Mathlib.Omega.{arith}
-use native.Mathlib.Nat.{mul-le-mul}
 use borrow.Author.Needs.{needs}
-use Rattle.bits.specs.Log.{ceil-log2}
-use Rattle.bits.proofs.Log.{log-le}
 use Rattle.closing.specs.Closing.{step-bound}
+use Rattle.closing.proofs.SameBound.{small, rounds-few}
 use Rattle.close.proofs.bound.step_bound.Statement.{statement}
 use Rattle.close.proofs.bound.step_bound.Tie as tie
-
--- both factors are small
-small : (a b : ℕ) → a ≤ 32 → b ≤ 36 → a * b ≤ 1152
-small a b h l = mul-le-mul h l
-
-rounds-few : (n : ℕ) → n ≤ 32 → ceil-log2 n * (n + 2) ≤ 1152
-rounds-few n h = small _ _ (omega (arith, log-le n 5 h)) (omega arith)
 
 mul-result : tie.Need-mul-result
 mul-result c = rw (c .ceil-log2 .ensures) (omega (arith, rounds-few _ (c .before .before .before .before .pre)))
