@@ -42,7 +42,7 @@ enum {
     DAGMUIZE_STATIONS = 40, /* no station, or more than 32 */
     DAGMUIZE_RULE = 41, /* a rule other than 1 and 2 */
     DAGMUIZE_RECORD = 42, /* made-up bytes: a record outside its ranges, or a STEP that takes answer 0 from the last ballot */
-    DAGMUIZE_NOT_CLOSED = 43, /* made-up bytes: an event of the closing log is refused, or a station uses up its steps undecided */
+    DAGMUIZE_NOT_CLOSED = 43, /* a made-up settlement: an event of the closing log is refused, or a station uses up its steps undecided */
     DAGMUIZE_IMAGE_LENGTH = 80, /* an image has 1,283 bytes, no more and no fewer */
     DAGMUIZE_IMAGE_VERSION = 81 /* the image's first byte is another version than 3 */
 };

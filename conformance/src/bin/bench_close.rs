@@ -36,7 +36,7 @@ fn rows(library: &(impl Subject + Sync)) {
     row(library, "rule 1", &claimed(1, 32));
     row(library, "rule 2, of 8 bits", &claimed(2, 8));
     row(library, "rule 2, of 32 bits", &claimed(2, 32));
-    row(library, "rule 2, the longest closing log", &only_claimed());
+    row(library, "rule 2, the longest of these", &only_claimed());
     let (log, plain) = (only_claimed(), &Plain);
     let library = stack::bytes_used(|| _ = black_box(library.close(&log, usize::MAX, 1, &mut vec![0; ROOM])));
     let plain = stack::bytes_used(|| _ = black_box(plain.close(&log, usize::MAX, 1, &mut vec![0; ROOM])));

@@ -131,7 +131,8 @@ module _ (closes : (o : Opening) → Openable o → (h : History) → Claims-fit
             spells = rw same (tail-spells log limit preferred o h p zero c more (omega arith));
             plays = rw same (sym (log-demand .only _ more _
                 (inr (o, whole o h preferred, both-played log limit preferred o h p zero c more limits room))));
-            enough = rw same (c .enough);
+            numbers = rw same (c .numbers);
+            short = rw same (c .short);
           }
 
       go : Run-told log limit (ran log limit) → Plays-on log limit preferred more

@@ -97,6 +97,10 @@ idle-holds = three (lost Waiting 0 5 0 0 0 0) (live Idle 1 0 0 0 0 0) (live Seek
 abbrev past-holds : Settlement
 past-holds = with-station 2 (live Waiting 1 7 0 0 0 0) (two 1 (lost Waiting 0 5 0 0 0 0) (live Seeking 2 6 0 0 1 0))
 
+-- made up: the claim of entry 2 of two is held by 0, which is lost
+abbrev past-claimed : Settlement
+past-claimed = with-station 2 (claimed 7) (two 1 (lost Waiting 4 5 0 0 0 0) (live Seeking 2 6 0 0 1 0))
+
 -- made up: the claim of 1 is held by 1, which is idle
 abbrev not-put-in : Settlement
 not-put-in = two 1 (live Seeking 1 5 1 0 0 0) (live Idle 2 0 0 0 0 0)
@@ -198,8 +202,8 @@ logs =
     -- a claim that only a lost station holds, or an idle one, left out; a claim or a STEP for a lost station
     ∷ closes lost-holds 0 1 (hand 0 1 ++ go 1)
     ∷ closes idle-holds 0 1 (hand 0 2 ++ go 2)
-    -- a claim that only an entry from n on holds, delivered
-    ∷ closes past-holds 0 1 (go 1)
+    -- a claim that only an entry from n on holds, or put in, delivered
+    ∷ closes past-holds 0 1 (go 1) ∷ closes past-claimed 0 1 (go 1)
     -- a claim that is held and was not put in: its DELIVER would be refused
     ∷ closes not-put-in 0 1 (go 0)
     -- the answer before the claims, or none because the preferred bit was not cast

@@ -12,7 +12,7 @@ log = 0x01 ∷ 0 ∷ 2 ∷ 1 ∷ 1 ∷ 0x10 ∷ 0 ∷ 5 ∷ 0 ∷ 0 ∷ 0 ∷ 0 
 abbrev cut : List ℕ
 cut = 0x01 ∷ 0 ∷ 2 ∷ 1 ∷ 1 ∷ 0x10 ∷ 0 ∷ 5 ∷ 0 ∷ 0 ∷ []
 
--- into ten nines, with limit 1
+-- into so many nines, with limit 1
 abbrev pub answered : (log : List ℕ) → (preferred room : ℕ) → ℕ
 answered b preferred room = close-answer b 1 preferred room
 
