@@ -1,4 +1,4 @@
--- What a caller reads off the answer (`include/dagmuize.h`): its number, its count, and the bytes of the buffer. Assumes nothing.
+-- What a caller reads off the answer (`include/dagmuize.h`) for a log of bytes: its number, its count, and the bytes of the buffer. Assumes nothing.
 use Prim.Native.Nat.{ℕ, _/_, _%_, _≤_, _<_}
 use mathlib.Core.Path.{_≡_}
 use mathlib.Core.List.{List}
