@@ -18,7 +18,7 @@ use Rattle.settlement.specs.Link.{record-after}
 use Rattle.closing.specs.Turn.{left, some-left, turn-events}
 use Rattle.closing.specs.Closing.{Closing, by-outcome, and-then, turn, turns, pass, passes}
 use Rattle.closing.specs.Demand.{steps-of}
-use Rattle.closing.proofs.Due.{Due, some-due, step-or-not, Sound, first-due, still-left, played-effect, turn-steps, turn-goes-on}
+use Rattle.closing.proofs.Due.{Due, some-due, step-or-not, Sound, first-due, still-left, played-effect, turn-none, turn-steps, turn-goes-on}
 use Rattle.closing.proofs.Supply.{Fair, Left-after, sound, count-same, left-told, told-left, due-fair}
 use Rattle.closing.proofs.Steps.{All-fair, fair-fits, left-back, steps-grow, one-step, not-step}
 
@@ -121,11 +121,6 @@ module _ (o : Opening) (op : Openable o) (h : History) (fit : Claims-fit h) (a :
     pub turned : (g : History) → All-fair o h g → left (record-of g) s ≡ true → Turned g
     turned g f x = turned-by (turn-events (record-of g) a s) g f x refl
 
-    -- a station that is not left has no turn
-    passed-over : (g : History) → left (record-of g) s ≡ false → turn a s (standing o h g) ≡ standing o h g
-    unfolding turn
-    passed-over g e = rw e
-
     -- its turn, whether it is left or not
     one-turn : (g : History) → All-fair o h g → Led o h (λ p. p ≡ s) 1 g (turn a s (standing o h g))
     one-turn g f =
@@ -136,7 +131,7 @@ module _ (o : Opening) (op : Openable o) (h : History) (fit : Claims-fit h) (a :
         (λ x.
         record {
           events = g;
-          comes = passed-over g x;
+          comes = turn-none a s (standing o h g) x;
           goes = stays o h g f;
           steps = λ p q y.
               let here = subst (λ (i : ℕ). Left-after o i (followed-by h g)) q y in
