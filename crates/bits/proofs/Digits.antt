@@ -72,16 +72,19 @@ bit-div (suc k) n =
     ∙ ap (λ (x : ℕ). eqb (x % 2) 1) (div-div-eq-div-mul n 2 (2 ^ k) ∙ ap (λ (x : ℕ). n / x) (sym (pow-succ' 2 k)))
 
 -- the lowest digit as a number
-pub lowest-value : (n : ℕ) → value (lowest n) ≡ n % 2
+lowest-value : (n : ℕ) → value (lowest n) ≡ n % 2
 lowest-value n = go (lowest n) refl
   where
     go : (b : Bool) → lowest n ≡ b → value b ≡ n % 2
     go true e = sym (eqb-true (n % 2) 1 e)
     go false e = let even : n % 2 ≢ 1 = eqb-false (n % 2) 1 e in omega arith
 
+pub low-value : (n : ℕ) → n % 2 ≡ value (bit 0 n)
+low-value n = sym (lowest-value n) ∙ ap value (sym (bit-low n))
+
 -- a number is its half twice and its lowest bit
 pub halves : (n : ℕ) → n ≡ n / 2 * 2 + value (bit 0 n)
-halves n = sym (div-add-mod' n 2) ∙ ap (λ (x : ℕ). n / 2 * 2 + x) (sym (lowest-value n) ∙ ap value (sym (bit-low n)))
+halves n = sym (div-add-mod' n 2) ∙ ap (λ (x : ℕ). n / 2 * 2 + x) (low-value n)
 
 ext-within : (f a b : ℕ) → a ≤ f → b ≤ f → ((k : ℕ) → bit k a ≡ bit k b) → a ≡ b
 ext-within zero a b h l same = le-zero h ∙ sym (le-zero l)

@@ -1,12 +1,14 @@
 -- Laws about the definitions of specs/ that belong to no one function.
---     Digits    a number by its bits, and its length
---     Words     one bit changed, low bits compared
---     Machine   what code on a machine word computes
---     Masks     sets of stations
---     Log       ceil(log2 n)
---     Examples  the numbers that document 01 writes out
+--     Digits      a number by its bits, and its length
+--     Words       one bit changed, low bits compared
+--     Difference  the first bit at which two numbers differ
+--     Machine     what code on a machine word computes
+--     Masks       sets of stations
+--     Log         ceil(log2 n)
+--     Examples    the numbers that the documents write out, and edges
 pub mod Digits
 pub mod Words
+pub mod Difference
 pub mod Machine
 pub mod Masks
 pub mod Log

@@ -13,7 +13,7 @@ use Rattle.basics.proofs.Bools.{by-bool}
 use Rattle.basics.proofs.Below.{any-found, any-none, count-same, count-past, count-first, count-more}
 use Rattle.bits.specs.Digits.{value, bit, bit-length}
 use Rattle.bits.specs.Words.{mask-bits, member, insert, size, Mask-laws, Ones-rule}
-use Rattle.bits.proofs.Digits.{bit-zero, bit-low, bit-step, bit-ext, bit-above, half-lt, lowest-value, length-bound}
+use Rattle.bits.proofs.Digits.{bit-zero, bit-step, bit-ext, bit-above, half-lt, low-value, length-bound}
 use Rattle.bits.proofs.Words.{word-outside, word-same, word-other}
 
 pub member-none : (s : ℕ) → member s 0 ≡ false
@@ -88,7 +88,7 @@ ones-rule zero n h = ap ones (lt-one h)
 ones-rule (suc w) n h =
     ones-step n
     ∙ ap (λ (x : ℕ). n % 2 + x) (ones-rule w (n / 2) (half-lt w n h) ∙ count-same w _ _ (λ k l. sym (bit-step k n)))
-    ∙ first (bit 0 n) (ap value (bit-low n) ∙ lowest-value n)
+    ∙ first (bit 0 n) (sym (low-value n))
     ∙ sym (count-first w (λ k. bit k n))
   where
     rest : ℕ

@@ -14,7 +14,7 @@ use borrow.Author.Tests.{eqb-true, eq-eqb, lt-ltb, le-ltb, ltb-true, ltb-false}
 use Rattle.basics.proofs.Bools.{both-ways, beq-same, beq-true}
 use Rattle.bits.specs.Digits.{value, bit}
 use Rattle.bits.specs.Words.{with-bit, low-agree, word-with-bit, Bit-laws, Word-laws}
-use Rattle.bits.proofs.Digits.{bit-low, bit-step, bit-ext, bit-above, lt-of-bits, halves, lowest-value}
+use Rattle.bits.proofs.Digits.{bit-low, bit-step, bit-ext, bit-above, lt-of-bits, halves, low-value}
 
 -- ---- a number made of a half and a lowest digit
 
@@ -26,10 +26,10 @@ lowest-of-value : (b : Bool) → eqb (value b) 1 ≡ b
 lowest-of-value true = refl
 lowest-of-value false = refl
 
-low-made : (q : ℕ) (b : Bool) → bit 0 (q * 2 + value b) ≡ b
+pub low-made : (q : ℕ) (b : Bool) → bit 0 (q * 2 + value b) ≡ b
 low-made q b = bit-low (q * 2 + value b) ∙ ap (λ (x : ℕ). eqb x 1) (digits-mod q (value-lt b)) ∙ lowest-of-value b
 
-high-made : (i q : ℕ) (b : Bool) → bit (suc i) (q * 2 + value b) ≡ bit i q
+pub high-made : (i q : ℕ) (b : Bool) → bit (suc i) (q * 2 + value b) ≡ bit i q
 high-made i q b = bit-step i (q * 2 + value b) ∙ ap (bit i) (digits-div q (value-lt b))
 
 -- ---- one bit changed
@@ -116,7 +116,7 @@ bits-agree (suc k) a b same =
 mod-made : (k n : ℕ) → n % 2 ^ suc k ≡ n / 2 % 2 ^ k * 2 + value (bit 0 n)
 mod-made k n =
     ap (λ (x : ℕ). n % x) (pow-suc 2 k) ∙ mod-mul n (pow-pos k) (zero-lt-suc 1)
-    ∙ ap (λ (x : ℕ). n / 2 % 2 ^ k * 2 + x) (sym (lowest-value n) ∙ ap value (sym (bit-low n)))
+    ∙ ap (λ (x : ℕ). n / 2 % 2 ^ k * 2 + x) (low-value n)
 
 pub bit-mod : (k i n : ℕ) → i < k → bit i (n % 2 ^ k) ≡ bit i n
 bit-mod zero i n l = absurd (not-suc-le-zero l)

@@ -1,6 +1,7 @@
-// A claim as a word: its length, one bit of it, one bit changed, and low bits compared.
+// A claim as a word: its length, one bit of it, one bit changed, and two words compared.
 ghost use mathlib.Core.Path.{_≡_};
 ghost use Rattle.bits.specs.Digits.{bit, bit-length};
+ghost use Rattle.bits.specs.Difference.{first-difference, place-said, none-differs};
 ghost use Rattle.bits.specs.Words.{claim-bits, word-with-bit, low-agree};
 
 // The word that holds a claim. Its width is said here and, for the proofs, by `claim-bits` of specs/Words.antt.
@@ -42,7 +43,7 @@ pub fn with_bit(x: Word, k: u8, b: bool) -> Word
 }
 
 // Whether the low k + 1 bits of a and b agree: all bits, where the word has no more.
-pub fn low_bits_agree(a: Word, b: Word, k: u8) -> bool
+fn low_bits_agree(a: Word, b: Word, k: u8) -> bool
     ensures { λ r. ⌜ r ≡ low-agree k a b ⌝ }
 {
     if WORD_BITS - 1 <= k {
@@ -50,4 +51,36 @@ pub fn low_bits_agree(a: Word, b: Word, k: u8) -> bool
     }
     let power: Word = 1 << (k + 1);
     a % power == b % power
+}
+
+// The first of the compared bits that differs, or none of them.
+pub enum Difference {
+    At(u8),
+    Nowhere,
+}
+
+// The first of the low k + 1 bits at which a and b differ: bit k comes first, then those below it, from bit 0 up. Where the word has no
+// bit k, all its bits are compared, from bit 0 up.
+pub fn first_difference(a: Word, b: Word, k: u8) -> Difference
+    ensures { λ r. ⌜ place-said r ≡ first-difference k a b ⌝ }
+{
+    if low_bits_agree(a, b, k) {
+        return Difference::Nowhere;
+    }
+    let differing = a ^ b;
+    if bit_at(differing, k) {
+        return Difference::At(k);
+    }
+    let lowest = u32::trailing_zeros(differing) as u8;
+    Difference::At(lowest)
+}
+
+// Whether none of the compared bits differs.
+pub fn none_differs(found: Difference) -> bool
+    ensures { λ r. ⌜ r ≡ none-differs (place-said found) ⌝ }
+{
+    match found {
+        Difference::At(_) => false,
+        Difference::Nowhere => true,
+    }
 }

@@ -3,7 +3,8 @@ ghost use mathlib.Core.Path.{_≡_};
 ghost use Rattle.event.specs.Step.{next-round, entry-after-seek, sought};
 use bits::logarithm::ceil_log2;
 use bits::mask::mask_has;
-use bits::word::low_bits_agree;
+use bits::word::first_difference;
+use bits::word::none_differs;
 use entry::changed::moved;
 use entry::entry::Stage;
 use entry::entry::Station;
@@ -41,7 +42,7 @@ pub fn sought(v: View, j: u8) -> Station
     let t = v.own;
     let beside = v.beside;
     let fits = mask_has(t.held, j)
-        & low_bits_agree(t.word, spelled(v.rule, j, beside.claim), t.round);
+        & none_differs(first_difference(t.word, spelled(v.rule, j, beside.claim), t.round));
     if fits {
         return entry_after_seek(v, j);
     }

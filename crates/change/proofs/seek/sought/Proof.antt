@@ -1,15 +1,37 @@
--- `change::seek::sought`: each branch is the definition's, which chooses by the same test. Assumes nothing.
+-- `change::seek::sought`: each branch is the definition's, which chooses by the same test: a comparison that finds none says that the low bits
+-- agree. Assumes nothing.
+use Rattle.bits.proofs.Difference.{agree-by}
 use Rattle.event.specs.Step.{sought}
 use Rattle.change.proofs.seek.sought.Statement.{statement}
 use Rattle.change.proofs.seek.sought.Tie as tie
 
 returns : tie.Need-returns
 unfolding sought
-returns c = rw (c .entry-after-seek .ensures, rw (c .before .before .low-bits-agree .ensures, c .before .before .before .spelled .ensures, c .before .before .before .before .mask-has .ensures) at (c .before .if1 .taken))
+returns c =
+    rw (
+      c .entry-after-seek .ensures,
+      rw (
+        c .before .before .none-differs .ensures,
+        c .before .before .before .first-difference .ensures,
+        agree-by,
+        c .before .before .before .before .spelled .ensures,
+        c .before .before .before .before .before .mask-has .ensures,
+      ) at (c .before .if1 .taken),
+    )
 
 returns-2 : tie.Need-returns-2
 unfolding sought
-returns-2 c = rw (c .moved .ensures, rw (c .before .before .low-bits-agree .ensures, c .before .before .before .spelled .ensures, c .before .before .before .before .mask-has .ensures) at (c .before .if1 .left))
+returns-2 c =
+    rw (
+      c .moved .ensures,
+      rw (
+        c .before .before .none-differs .ensures,
+        c .before .before .before .first-difference .ensures,
+        agree-by,
+        c .before .before .before .before .spelled .ensures,
+        c .before .before .before .before .before .mask-has .ensures,
+      ) at (c .before .if1 .left),
+    )
 
 pub sought-spec : {M : Type 1} → statement M
 sought-spec =
@@ -17,7 +39,8 @@ sought-spec =
     (tie.spec
     (λ mask-has-requires κs. tt)
     (λ spelled-requires κs. tt)
-    (λ low-bits-agree-requires κs. tt)
+    (λ first-difference-requires κs. tt)
+    (λ none-differs-requires κs. tt)
     (λ found-requires κs. tt)
     returns
     (λ moved-requires κs. tt)
