@@ -1,5 +1,6 @@
-//! The stored script of `lent_case`, by topic. Each number beside a call is written by hand from document 01 and, for answers that come twice
-//! and for who voted which way, from requests A.1 and A.2 of document 02; the plain reading in `record.rs` has to give it too, and the program.
+//! The stored script of `lent_case`, by topic. Each number beside a call is written by hand from document 01 and, for answers that come twice,
+//! who voted which way and comparisons, from requests A.1, A.2 and A.4 of document 02; the plain reading in `record.rs` has to give it too, and
+//! the program.
 
 use crate::log::{written, Field};
 use crate::model::Event;
@@ -25,6 +26,7 @@ pub fn script() -> Script {
     hand.repeats();
     hand.tallies();
     hand.lengths();
+    hand.comparisons();
     hand.bodies();
     hand.rests();
     hand.limits();
@@ -121,6 +123,7 @@ impl Hand {
         self.0.say("#   read: tag, the body's numbers (a byte, another, a claim), bytes taken; or the number of the refusal alone\n");
         self.0.say("#   body, rest: how many bytes, and which\n");
         self.0.say("#   run: events, bytes taken, status. length: the count of binary digits\n");
+        self.0.say("#   compare: 1 and the place of the first bit that differs, or 0\n");
     }
 
     fn openings(&mut self) {
@@ -649,6 +652,32 @@ impl Hand {
             [(0, 1), (1, 1), (2, 2), (3, 2), (4, 3), (7, 3), (8, 4), (1 << 31, 32), ((1 << 31) - 1, 31), (u32::MAX, 32)]
         {
             self.call(Command::Length(v), &[digits]);
+        }
+    }
+
+    /// 02, A.4. Past the last bit of a claim there is nothing to differ.
+    fn comparisons(&mut self) {
+        self.heading("Compare bit k first and only then the bits below it, from bit 0 up");
+        for (k, a, b, place) in [
+            (0, 1, 0, Some(0)),
+            (0, 2, 0, None),
+            (2, 0b101, 0, Some(2)),
+            (2, 0b100, 0, Some(2)),
+            (3, 0b111, 0, Some(0)),
+            (3, 0b110, 0, Some(1)),
+            (2, 0b1000, 0, None),
+            (4, 21, 21, None),
+            (31, 0x8000_0001, 0, Some(31)),
+            (31, 0x4000_0000, 0, Some(30)),
+            (30, 0x8000_0000, 0, None),
+            (32, 0x8000_0001, 0, Some(0)),
+            (32, 0, 0x8000_0000, Some(31)),
+            (64, 6, 2, Some(2)),
+            (255, 0, 0x8000_0000, Some(31)),
+            (255, u32::MAX, u32::MAX, None),
+        ] {
+            let answer = place.map_or(vec![0], |place| vec![1, place]);
+            self.call(Command::Compare { k, a, b }, &answer);
         }
     }
 

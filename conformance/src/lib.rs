@@ -6,6 +6,7 @@ pub mod closing;
 pub mod closing_case;
 pub mod closing_kinds;
 pub mod closings;
+pub mod compared;
 pub mod demand;
 pub mod edges;
 #[cfg(feature = "archive")]

@@ -1,6 +1,7 @@
 //! Random scripts for `lent_case`: records made up around every clause of the record test, events and LOOKs on them, and logs under small limits.
 
 use crate::again::{self, Met};
+use crate::compared;
 use crate::generate::{self, Rng};
 use crate::log::{written, Field};
 use crate::model::{ceil_log2, Event};
@@ -13,7 +14,7 @@ use std::collections::BTreeMap;
 pub type Numbers = BTreeMap<usize, usize>;
 
 /// The numbers of events, LOOKs and looks at ballots, RUN's statuses, answers that came twice, and the RUNs of logs with one;
-/// the sorts of ballots and votes.
+/// the sorts of ballots and votes, and of comparisons.
 #[derive(Default)]
 pub struct Counts {
     pub events: Numbers,
@@ -23,6 +24,7 @@ pub struct Counts {
     pub again: Met,
     pub runs_again: usize,
     pub voters: Met,
+    pub compared: Met,
 }
 
 pub fn script(rng: &mut Rng, counts: &mut Counts) -> Script {
@@ -61,6 +63,7 @@ fn call(script: &mut Script, counts: &mut Counts, command: Command) {
                 counts.voters.add(voters::looked_at(&before, b));
             }
         }
+        Command::Compare { k, a, b } => counts.compared.add(compared::sorts(k, a ^ b)),
         Command::Look(_) => *counts.looks.entry(at(&answer, 0)).or_default() += 1,
         Command::Run { log, .. } => {
             *counts.runs.entry(at(&answer, 2)).or_default() += 1;
@@ -277,7 +280,7 @@ fn reached(rng: &mut Rng, script: &mut Script, counts: &mut Counts) {
     play(rng, script, counts);
 }
 
-/// BODY, READ, REST and lengths on any bytes, and OPEN with any numbers.
+/// BODY, READ, REST and lengths on any bytes, comparisons, and OPEN with any numbers.
 fn parts(rng: &mut Rng, script: &mut Script, counts: &mut Counts) {
     for _ in 0..20 {
         let bytes = match rng.below(3) {
@@ -295,6 +298,7 @@ fn parts(rng: &mut Rng, script: &mut Script, counts: &mut Counts) {
         call(script, counts, Command::Rest { taken, log: bytes });
         let claim = any >> rng.below(32);
         call(script, counts, Command::Length(claim));
+        call(script, counts, comparison(rng, claim));
     }
     let (any, rule) = (rng.byte(), rng.byte());
     call(
@@ -303,6 +307,17 @@ fn parts(rng: &mut Rng, script: &mut Script, counts: &mut Counts) {
         Command::Open { n: rng.pick(&[0, 1, 2, 31, 32, 33, any]), rule: rng.pick(&[0, 1, 2, 3, rule]) },
     );
     script.show_record();
+}
+
+/// A word and one that differs from it in a few bits, most of them at k or around it, or in any.
+fn comparison(rng: &mut Rng, a: u32) -> Command {
+    let any = rng.byte();
+    let k = rng.pick(&[0, 1, 2, 4, 7, 15, 16, 30, 31, 31, 32, 33, 64, 255, any % 32, any % 32, any]);
+    let near = |rng: &mut Rng| 1u32.checked_shl(u32::from(k)).unwrap_or(0).rotate_right(rng.below(5) as u32);
+    let (one, other, bits) = (near(rng), near(rng), rng.next() as u32);
+    let low = u32::MAX.checked_shl(u32::from(k) + 1).map_or(bits, |above| bits & !above);
+    let differing = rng.pick(&[0, one, one | other, 1 << (bits % 32), low, bits, one.rotate_left(5)]);
+    Command::Compare { k, a, b: a ^ differing }
 }
 
 /// A field of any kind, its length at times not the table's.

@@ -2,6 +2,7 @@
 //! A command is written as a field of a log is: tag, length, body. A note is written out as it stands: with it the program says what was
 //! called, and then the answer's numbers, each after a blank.
 
+use crate::compared::first_difference;
 use crate::log::{self, Field};
 use crate::model::{length, Event};
 use crate::record::{Ballot, Record, Station, Tally, STAGES};
@@ -37,6 +38,11 @@ pub enum Command {
         log: Vec<u8>,
     },
     Length(u32),
+    Compare {
+        k: u8,
+        a: u32,
+        b: u32,
+    },
 }
 
 use Command::*;
@@ -96,6 +102,7 @@ impl Command {
             Rest { taken, log } => framed(b't', &[&taken.to_be_bytes()[..], log].concat()),
             Run { limit, log } => framed(b'r', &[&limit.to_be_bytes()[..], log].concat()),
             Length(v) => framed(b'l', &v.to_be_bytes()),
+            Compare { k, a, b } => framed(b'c', &[&[*k][..], &a.to_be_bytes(), &b.to_be_bytes()].concat()),
         }
     }
 
@@ -117,6 +124,7 @@ impl Command {
             Rest { taken, log } => format!("rest past {taken} of{}:", part(log)),
             Run { limit, .. } => format!("run with limit {limit}:"),
             Length(v) => format!("length of {v}:"),
+            Compare { k, a, b } => format!("compare {a} {b} up to {k}:"),
         }
     }
 
@@ -154,6 +162,7 @@ impl Command {
             Rest { taken, log } => part(log.get(*taken as usize..).unwrap_or(&[])),
             Run { limit, log } => run(log, *limit as usize, record),
             Length(v) => row(&[length(*v) as u64]),
+            Compare { k, a, b } => first_difference(*k, *a, *b).map_or(row(&[0]), |place| row(&[1, place.into()])),
         }
     }
 }

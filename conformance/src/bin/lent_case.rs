@@ -3,6 +3,7 @@
 
 use conformance::again::ON_RECORDS;
 use conformance::by_hand;
+use conformance::compared::SORTS;
 use conformance::generate::Rng;
 use conformance::made_up::{self, Counts, Numbers};
 use conformance::program::{self, Program, Told};
@@ -20,7 +21,7 @@ const EVENTS: [usize; 14] = [0, 1, 2, 3, 4, 5, 6, 7, 8, 9, 10, 11, 12, 42];
 const LOOKS: [usize; 3] = [0, 1, 42];
 const TALLIES: [usize; 3] = [0, 9, 42];
 const RUNS: [usize; 2] = [0, 26];
-/// Each sort of answers that come twice so often at least, and logs with one; and each sort of ballots, votes and answers.
+/// Each sort of answers that come twice so often at least, and logs with one; each sort of ballots, votes and answers; and of comparisons.
 const LEAST: usize = 20;
 
 fn main() -> ExitCode {
@@ -68,6 +69,7 @@ fn print_counts(counts: &Counts) {
     println!("RUNs by status:{}; {} of logs that play an answer again", table(&counts.runs), counts.runs_again);
     print!("{}", counts.again.lines("ANSWER of", &ON_RECORDS));
     print!("{}", voters::lines(&counts.voters));
+    print!("{}", counts.compared.lines("words that differ", &SORTS));
 }
 
 fn met(what: &str, numbers: &Numbers, due: &[usize]) -> Result<(), String> {
@@ -78,7 +80,12 @@ fn met(what: &str, numbers: &Numbers, due: &[usize]) -> Result<(), String> {
 }
 
 fn met_often(counts: &Counts) -> Result<(), String> {
-    let rare = [counts.again.missing(&ON_RECORDS, LEAST), voters::missing(&counts.voters, LEAST)].concat();
+    let rare = [
+        counts.again.missing(&ON_RECORDS, LEAST),
+        voters::missing(&counts.voters, LEAST),
+        counts.compared.missing(&SORTS, LEAST),
+    ]
+    .concat();
     match rare.is_empty() && counts.runs_again >= LEAST {
         true => Ok(()),
         false => Err(format!("fewer than {LEAST} times: {rare:?}, or a RUN that plays an answer again")),

@@ -5,7 +5,7 @@
 //     K  s           LOOK                           L  b          LOOK at a ballot
 //     r  limit, log  RUN                            b  bytes      BODY
 //     t  taken, log  REST                           d  bytes      READ
-//                                                   l  claim      its length
+//     c  k, a, b     compares two words             l  claim      its length
 use crate::made_up;
 use crate::parts;
 use crate::print;
@@ -13,7 +13,9 @@ use crate::script::byte;
 use crate::script::word;
 use crate::settled;
 use crate::show;
+use bits::word::Difference;
 use bits::word::bit_length;
+use bits::word::first_difference;
 use log::rest::rest;
 use settlement::record::Settlement;
 
@@ -29,6 +31,17 @@ fn asks(tag: u8, first: u8, r: Settlement) {
     }
 }
 
+// 1 and the first bit that differs, or 0.
+fn difference(found: Difference) {
+    match found {
+        Difference::At(place) => {
+            print::mark(true);
+            print::small(place);
+        }
+        Difference::Nowhere => print::mark(false),
+    }
+}
+
 // What asks no settlement.
 fn reads(tag: u8, body: &[u8]) {
     match tag {
@@ -37,6 +50,7 @@ fn reads(tag: u8, body: &[u8]) {
         b'd' => parts::read_of(body),
         b't' => print::part(rest(rest(body, 4), word(body, 0) as usize)),
         b'l' => print::small(bit_length(word(body, 0))),
+        b'c' => difference(first_difference(word(body, 1), word(body, 5), byte(body, 0))),
         _ => {}
     }
 }
