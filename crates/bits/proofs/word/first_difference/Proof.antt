@@ -15,28 +15,20 @@ returns c =
 
 returns-2 : tie.Need-returns-2
 returns-2 c =
-    let a = c .before .before .before .before .args in
-    rw (
-      difference-rule claim-bits (a .k) (a .a) (a .b) (search needs) (search needs),
-      ← c .before .before .before .low-bits-agree .ensures,
-      c .before .before .if1 .left,
-      ← c .before .bit-at .ensures,
-      c .if2 .taken,
-    )
+    let t = c .before .before in
+    let a = t .before .before .args in
+    let rule = difference-rule claim-bits (a .k) (a .a) (a .b) (search needs) (search needs) in
+    rw (rule, ← t .before .low-bits-agree .ensures, t .if1 .left, ← c .before .bit-at .ensures, c .if2 .taken)
 
 cast-lowest : tie.Need-cast-lowest
 cast-lowest c = record { fits = lt-of-le-of-lt (trailing-le claim-bits _) (lit< tt) }
 
 returns-3 : tie.Need-returns-3
 returns-3 c =
-    let a = c .before .before .before .before .args in
-    rw (
-      difference-rule claim-bits (a .k) (a .a) (a .b) (search needs) (search needs),
-      ← c .before .before .before .low-bits-agree .ensures,
-      c .before .before .if1 .left,
-      ← c .before .bit-at .ensures,
-      c .if2 .left,
-    )
+    let t = c .before .before in
+    let a = t .before .before .args in
+    let rule = difference-rule claim-bits (a .k) (a .a) (a .b) (search needs) (search needs) in
+    rw (rule, ← t .before .low-bits-agree .ensures, t .if1 .left, ← c .before .bit-at .ensures, c .if2 .left)
 
 pub first-difference-spec : {M : Type 1} → statement M
 first-difference-spec =

@@ -8,29 +8,19 @@ use Rattle.change.proofs.seek.sought.Tie as tie
 returns : tie.Need-returns
 unfolding sought
 returns c =
+    let b = c .before .before in
     rw (
       c .entry-after-seek .ensures,
-      rw (
-        c .before .before .none-differs .ensures,
-        c .before .before .before .first-difference .ensures,
-        agree-by,
-        c .before .before .before .before .spelled .ensures,
-        c .before .before .before .before .before .mask-has .ensures,
-      ) at (c .before .if1 .taken),
+      rw (b .none-differs .ensures, b .before .first-difference .ensures, agree-by, b .before .before .spelled .ensures, b .before .before .before .mask-has .ensures) at (c .before .if1 .taken),
     )
 
 returns-2 : tie.Need-returns-2
 unfolding sought
 returns-2 c =
+    let b = c .before .before in
     rw (
       c .moved .ensures,
-      rw (
-        c .before .before .none-differs .ensures,
-        c .before .before .before .first-difference .ensures,
-        agree-by,
-        c .before .before .before .before .spelled .ensures,
-        c .before .before .before .before .before .mask-has .ensures,
-      ) at (c .before .if1 .left),
+      rw (b .none-differs .ensures, b .before .first-difference .ensures, agree-by, b .before .before .spelled .ensures, b .before .before .before .mask-has .ensures) at (c .before .if1 .left),
     )
 
 pub sought-spec : {M : Type 1} → statement M
