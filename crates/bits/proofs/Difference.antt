@@ -1,23 +1,24 @@
 -- The first bit at which two numbers differ. What each answer says is `Told`, and no two answers say the same of one comparison (`one-answer`):
 -- so an answer is right where what it says holds. What differs is the exclusive or, bit by bit, and its trailing zeros end at its lowest 1.
 -- Assumes nothing.
-use Prim.Native.Nat.{ℕ, zero, suc, _+_, _*_, _/_, _%_, _^_, _≤_, _<_, zero-le}
+use Prim.Native.Nat.{ℕ, zero, suc, _+_, _-_, _*_, _/_, _%_, _^_, _≤_, _<_, zero-le}
 use mathlib.Core.Path.{_≡_, refl, sym, ap, ap₂, _∙_, subst}
 use mathlib.Core.Logic.{_⊎_, inl, inr, ⊎-elim}
 use mathlib.Core.Bool.{Bool, true, false, not, Bool·beq, cond}
 use mathlib.Core.Option.{Option, none, some, Option·none-ne-some}
 use native.Mathlib.Nat.{le-refl, le-antisymm, le-trans, le-of-lt, le-of-suc-le-suc, not-suc-le-zero, lt-of-lt-of-le, lt-of-not-le, ne-of-lt, eq-or-lt-of-le}
 use native.Mathlib.Omega.{arith}
-use lib.Bits.{bitXor, differ, xor-step, xor-lt}
+use lib.Bits.{bitXor, differ, xor-step, xor-lt, xor-self, xor-mod}
 use lib.Count.{trailingZeros, under}
 use lib.Dec.{eqb, ltb}
-use borrow.Author.Tests.{eqb-true, eqb-false, ltb-true, ltb-false, not-true, not-false}
-use Rattle.basics.proofs.Bools.{by-bool, cond-ind, no-clash, beq-same, beq-true}
+use borrow.Author.Tests.{eqb-true, eqb-false, eq-eqb, ltb-true, ltb-false, not-true, not-false}
+use Rattle.basics.proofs.Bools.{by-bool, both-ways, cond-ind, no-clash, beq-same, beq-true}
 use Rattle.bits.specs.Digits.{value, bit}
 use Rattle.bits.specs.Words.{low-agree}
 use Rattle.bits.specs.Difference.{rising, newest-first, first-among, first-difference, none-differs, Same, Before, First, Difference-laws, Difference-rule}
-use Rattle.bits.proofs.Digits.{bit-low, bit-step, bit-ext, bit-above, low-value}
-use Rattle.bits.proofs.Words.{low-made, high-made, agree-bits, bits-agree}
+use Rattle.bits.proofs.Digits.{bit-low, bit-step, bit-zero, bit-ext, bit-above, low-value}
+use Rattle.bits.proofs.Words.{low-made, high-made, agree-bits, bits-agree, low-agree-mod}
+use Rattle.bits.proofs.Machine.{bit-on-top, zero-on-top, agree-whole}
 
 -- ---- the definition, place by place
 
@@ -214,11 +215,38 @@ pub difference-rule : Difference-rule
 difference-rule w k a b l m =
     let x = bitXor a b in
     let t = trailingZeros w x in
-    answers k a b (cond (low-agree k a b) none (cond (bit k x) (some k) (some t)))
-    (cond-ind (Told k a b) (low-agree k a b) none (cond (bit k x) (some k) (some t)) (agree-bits k a b)
-    (λ e.
-    cond-ind (Told k a b) (bit k x) (some k) (some t) (λ h. newest-differs k a b (one-differs k a b h))
-    (λ h. newest-agrees k a b (some t) (zero-same k a b h) (lowest-below w k a b l m e h))))
+    let rest = cond (low-agree k a b) none (some t) in
+    answers k a b (cond (bit k x) (some k) rest)
+    (cond-ind (Told k a b) (bit k x) (some k) rest (λ h. newest-differs k a b (one-differs k a b h))
+    (λ h.
+    cond-ind (Told k a b) (low-agree k a b) none (some t) (agree-bits k a b)
+    (λ e. newest-agrees k a b (some t) (zero-same k a b h) (lowest-below w k a b l m e h))))
+
+-- nothing differs where the number of the differences is 0
+xor-zero : (a b : ℕ) → eqb (bitXor a b) 0 ≡ eqb a b
+xor-zero a b =
+    both-ways (eqb (bitXor a b) 0) (eqb a b)
+    (λ e. eq-eqb a b (bit-ext a b (λ i. zero-same i a b (ap (bit i) (eqb-true (bitXor a b) 0 e) ∙ bit-zero i))))
+    (λ e. eq-eqb (bitXor a b) 0 (ap (λ (x : ℕ). bitXor x b) (eqb-true a b e) ∙ xor-self b))
+
+-- the code's tests: of the differences, shifted so that bit k is at the top, or whole where the word has no bit k
+module _ (w k a b : ℕ) (l : a < 2 ^ w) (m : b < 2 ^ w) where
+  abbrev d : ℕ
+  d = bitXor a b
+
+  abbrev top : ℕ
+  top = d * 2 ^ (w - 1 - k) % 2 ^ w
+
+  pub by-shift : k < w → first-difference k a b ≡ cond (bit (w - 1) top) (some k) (cond (eqb top 0) none (some (trailingZeros w d)))
+  by-shift h = difference-rule w k a b l m ∙ sym (rw (bit-on-top w k d h, nothing))
+    where
+      nothing : eqb top 0 ≡ low-agree k a b
+      nothing =
+          zero-on-top w k d h ∙ ap (λ (x : ℕ). eqb x 0) (xor-mod a b (suc k)) ∙ xor-zero (a % 2 ^ suc k) (b % 2 ^ suc k)
+          ∙ sym (low-agree-mod k a b)
+
+  pub by-whole : w ≤ k → first-difference k a b ≡ cond (eqb d 0) none (some (trailingZeros w d))
+  by-whole g = rw (difference-rule w k a b l m, bit-above w d (xor-lt w a b l m) k g, xor-zero a b, agree-whole w k a b g l m)
 
 -- low bits agree where the comparison answers none
 pub agree-by : (k a b : ℕ) → none-differs (first-difference k a b) ≡ low-agree k a b

@@ -1,17 +1,19 @@
--- What code on a machine word of w bits computes is what the definitions say: below the width a shift loses nothing, so the shifted bits that
--- the code takes away and adds are those of the definition, and its remainders are by the power itself. Assumes nothing.
-use Prim.Native.Nat.{ℕ, suc, _+_, _-_, _*_, _%_, _^_, _≤_, _<_}
-use mathlib.Core.Path.{_≡_, sym, ap₂, _∙_}
+-- What code on a machine word of w bits computes is what the definitions say: below the width a shift of one bit loses nothing, so the shifted bits
+-- that the code takes away and adds are those of the definition; and a shift of a word loses what is shifted out. Assumes nothing.
+use Prim.Native.Nat.{ℕ, suc, _+_, _-_, _*_, _/_, _%_, _^_, _≤_, _<_}
+use mathlib.Core.Path.{_≡_, sym, ap, ap₂, _∙_}
 use mathlib.Core.Bool.{Bool, true, false}
-use native.Mathlib.Nat.{lt-of-lt-of-le, mod-eq-of-lt, one-mul}
-use native.Mathlib.Numerals.{add-one}
+use native.Mathlib.Nat.{le-refl, le-step, lt-of-lt-of-le, mod-eq-of-lt, mul-mod-left, add-zero, zero-mul, zero-div}
 use native.Mathlib.Omega.{arith}
 use lib.Dec.{eqb}
-use lib.Pow.{pow-pos, pow-mono, shl-exact}
+use lib.Pow.{pow-mono, shl-exact, shl-shr, shr-shr, mod-pow-add}
+use borrow.Author.Tests.{eqb-true, eq-eqb}
 use mir.Val.{boolByte}
+use Rattle.basics.proofs.Bools.{both-ways}
 use Rattle.bits.specs.Digits.{value, bit}
 use Rattle.bits.specs.Words.{with-bit, low-agree, word-with-bit}
-use Rattle.bits.proofs.Words.{value-lt, bit-le, word-inside, low-agree-mod}
+use Rattle.bits.proofs.Digits.{bit-div}
+use Rattle.bits.proofs.Words.{value-lt, bit-le, bit-mod, word-inside, low-agree-mod}
 
 -- ---- a bit changed
 
@@ -30,17 +32,45 @@ pub word-made : (w k n : ℕ) (old new : Bool) → k < w → old ≡ bit k n
 unfolding with-bit
 word-made w k n old new h e = rw (bool-shift w k old h, bool-shift w k new h, e) (sym (word-inside w k new n h))
 
--- ---- low bits compared: the remainders by 2 ^ (k + 1), or the whole word where it has no more bits
+-- ---- a word of w bits shifted so that its bit k is at the top: the bits above are out, and those below stay in order
 
-pub power-exact : (w k : ℕ) → k < w → 1 * 2 ^ k % 2 ^ w ≡ 2 ^ k
-power-exact w k h = shift-exact w k 1 (value-lt true) h ∙ one-mul (2 ^ k)
+on-top : (w k x : ℕ) → k < w → x * 2 ^ (w - 1 - k) % 2 ^ w ≡ x % 2 ^ suc k * 2 ^ (w - 1 - k)
+on-top w k x h =
+    let s = w - 1 - k in
+    let whole : w ≡ suc k + s = omega arith in
+    ap (λ (v : ℕ). x * 2 ^ s % 2 ^ v) whole
+    ∙ mod-pow-add (x * 2 ^ s) (suc k) s
+    ∙ ap₂ (λ (p q : ℕ). p % 2 ^ suc k * 2 ^ s + q) (shl-shr x s) (mul-mod-left x (2 ^ s))
+    ∙ add-zero _
 
-pub power-positive : (w k : ℕ) → k < w → 0 < 1 * 2 ^ k % 2 ^ w
-power-positive w k h = rw (power-exact w k h) (pow-pos k)
+shifted-bit : (s i n : ℕ) → bit (s + i) (n * 2 ^ s) ≡ bit i n
+shifted-bit s i n =
+    bit-div (s + i) (n * 2 ^ s)
+    ∙ ap (λ (x : ℕ). eqb (x % 2) 1) (sym (shr-shr (n * 2 ^ s) s i) ∙ ap (λ (x : ℕ). x / 2 ^ i) (shl-shr n s))
+    ∙ sym (bit-div i n)
 
-pub agree-made : (w k a b : ℕ) → k + 1 < w → eqb (a % (1 * 2 ^ (k + 1) % 2 ^ w)) (b % (1 * 2 ^ (k + 1) % 2 ^ w)) ≡ low-agree k a b
-agree-made w k a b h = rw (power-exact w (k + 1) h, add-one k) (sym (low-agree-mod k a b))
+pub bit-on-top : (w k x : ℕ) → k < w → bit (w - 1) (x * 2 ^ (w - 1 - k) % 2 ^ w) ≡ bit k x
+bit-on-top w k x h =
+    let s = w - 1 - k in
+    let top : w - 1 ≡ s + k = omega arith in
+    ap (bit (w - 1)) (on-top w k x h) ∙ ap (λ (i : ℕ). bit i (x % 2 ^ suc k * 2 ^ s)) top
+    ∙ shifted-bit s k (x % 2 ^ suc k) ∙ bit-mod (suc k) k x (le-refl (suc k))
 
-pub agree-whole : (w k a b : ℕ) → w ≤ suc k → a < 2 ^ w → b < 2 ^ w → eqb a b ≡ low-agree k a b
+pub zero-on-top : (w k x : ℕ) → k < w → eqb (x * 2 ^ (w - 1 - k) % 2 ^ w) 0 ≡ eqb (x % 2 ^ suc k) 0
+zero-on-top w k x h = ap (λ (y : ℕ). eqb y 0) (on-top w k x h) ∙ go (x % 2 ^ suc k)
+  where
+    s : ℕ
+    s = w - 1 - k
+
+    go : (y : ℕ) → eqb (y * 2 ^ s) 0 ≡ eqb y 0
+    go y =
+        both-ways (eqb (y * 2 ^ s) 0) (eqb y 0)
+        (λ e. eq-eqb y 0 (sym (shl-shr y s) ∙ ap (λ (x : ℕ). x / 2 ^ s) (eqb-true (y * 2 ^ s) 0 e) ∙ zero-div (2 ^ s)))
+        (λ e. eq-eqb (y * 2 ^ s) 0 (ap (λ (x : ℕ). x * 2 ^ s) (eqb-true y 0 e) ∙ zero-mul (2 ^ s)))
+
+-- ---- whole words compared, where the word has no more bits
+
+pub agree-whole : (w k a b : ℕ) → w ≤ k → a < 2 ^ w → b < 2 ^ w → eqb a b ≡ low-agree k a b
 agree-whole w k a b h l m =
-    sym (low-agree-mod k a b ∙ ap₂ eqb (mod-eq-of-lt (lt-of-lt-of-le l (pow-mono h))) (mod-eq-of-lt (lt-of-lt-of-le m (pow-mono h))))
+    let g = pow-mono (le-step h) in
+    sym (low-agree-mod k a b ∙ ap₂ eqb (mod-eq-of-lt (lt-of-lt-of-le l g)) (mod-eq-of-lt (lt-of-lt-of-le m g)))

@@ -69,9 +69,9 @@ pub record Difference-laws : Type 0 where
 
 -- ---- how the code finds it
 
--- For any width w that holds both: none, where the low bits agree; else, of the number that has a 1 where they differ, k, where its bit k is 1, or
+-- For any width w that holds both, by the number that has a 1 where they differ: k, where its bit k is 1; else none, where the low bits agree; else
 -- its lowest 1, which ends its trailing zeros.
 abbrev pub Difference-rule : Type 0
 Difference-rule = (w k a b : ℕ) → a < 2 ^ w → b < 2 ^ w
     → first-difference k a b
-    ≡ cond (low-agree k a b) none (cond (bit k (bitXor a b)) (some k) (some (trailingZeros w (bitXor a b))))
+    ≡ cond (bit k (bitXor a b)) (some k) (cond (low-agree k a b) none (some (trailingZeros w (bitXor a b))))

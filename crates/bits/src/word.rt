@@ -2,7 +2,7 @@
 ghost use mathlib.Core.Path.{_≡_};
 ghost use Rattle.bits.specs.Digits.{bit, bit-length};
 ghost use Rattle.bits.specs.Difference.{first-difference, place-said, none-differs};
-ghost use Rattle.bits.specs.Words.{claim-bits, word-with-bit, low-agree};
+ghost use Rattle.bits.specs.Words.{claim-bits, word-with-bit};
 
 // The word that holds a claim. Its width is said here and, for the proofs, by `claim-bits` of specs/Words.antt.
 pub type Word = u32;
@@ -42,17 +42,6 @@ pub fn with_bit(x: Word, k: u8, b: bool) -> Word
     x - (old << k) + (new << k)
 }
 
-// Whether the low k + 1 bits of a and b agree: all bits, where the word has no more.
-fn low_bits_agree(a: Word, b: Word, k: u8) -> bool
-    ensures { λ r. ⌜ r ≡ low-agree k a b ⌝ }
-{
-    if WORD_BITS - 1 <= k {
-        return a == b;
-    }
-    let power: Word = 1 << (k + 1);
-    a % power == b % power
-}
-
 // The first of the compared bits that differs, or none of them.
 pub enum Difference {
     At(u8),
@@ -61,17 +50,26 @@ pub enum Difference {
 
 // The first of the low k + 1 bits at which a and b differ: bit k comes first, then those below it, from bit 0 up. Where the word has no
 // bit k, all its bits are compared, from bit 0 up.
+// A shift moves bit k to the top and the bits above it out. So "bit k differs" is the shifted word's top bit, and the machine has one test for
+// that and for "nothing differs".
 pub fn first_difference(a: Word, b: Word, k: u8) -> Difference
     ensures { λ r. ⌜ place-said r ≡ first-difference k a b ⌝ }
 {
-    if low_bits_agree(a, b, k) {
-        return Difference::Nowhere;
-    }
     let differing = a ^ b;
-    if bit_at(differing, k) {
+    let lowest = u32::trailing_zeros(differing) as u8;
+    if WORD_BITS <= k {
+        if differing == 0 {
+            return Difference::Nowhere;
+        }
+        return Difference::At(lowest);
+    }
+    let compared = differing << (WORD_BITS - 1 - k);
+    if bit_at(compared, WORD_BITS - 1) {
         return Difference::At(k);
     }
-    let lowest = u32::trailing_zeros(differing) as u8;
+    if compared == 0 {
+        return Difference::Nowhere;
+    }
     Difference::At(lowest)
 }
 

@@ -1,6 +1,6 @@
 // STEP of a seeking station.
 ghost use mathlib.Core.Path.{_≡_};
-ghost use Rattle.event.specs.Step.{next-round, entry-after-seek, sought};
+ghost use Rattle.event.specs.Step.{next-round, entry-after-seek, seeking-ends, sought};
 use bits::logarithm::ceil_log2;
 use bits::mask::mask_has;
 use bits::word::first_difference;
@@ -35,15 +35,24 @@ fn entry_after_seek(v: View, j: u8) -> Station
     moved(t, Stage::FinishVoting, j, t.round, t.word, t.decision)
 }
 
-// The cursor is on j, whose claim fits, or the station goes on seeking.
+// Whether seeking ends at j: its claim is held, and none of the compared bits differs.
+fn seeking_ends(v: View, j: u8) -> bool
+    ensures { λ x. ⌜ x ≡ seeking-ends v j ⌝ }
+{
+    let t = v.own;
+    let beside = v.beside;
+    if mask_has(t.held, j) {
+        return none_differs(first_difference(t.word, spelled(v.rule, j, beside.claim), t.round));
+    }
+    false
+}
+
+// The cursor is on j, and seeking ends there, or the station goes on seeking.
 pub fn sought(v: View, j: u8) -> Station
     ensures { λ x. ⌜ x ≡ sought v j ⌝ }
 {
     let t = v.own;
-    let beside = v.beside;
-    let fits = mask_has(t.held, j)
-        & none_differs(first_difference(t.word, spelled(v.rule, j, beside.claim), t.round));
-    if fits {
+    if seeking_ends(v, j) {
         return entry_after_seek(v, j);
     }
     moved(t, Stage::Seeking, j, t.round, t.word, t.decision)
