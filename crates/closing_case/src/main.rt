@@ -1,5 +1,7 @@
 // CLOSE on records that the input gives as images, made-up ones too: case after case, and what it answers to each. Its input and what it has to
 // write are said by a reading of document 02 in conformance/.
+#![tactic(auto)]
+
 mod case;
 mod print;
 

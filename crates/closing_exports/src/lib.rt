@@ -1,5 +1,7 @@
 // CLOSE as other languages call it, with the log of the settlement: numbers and byte slices only. It is compiled by itself: beside RUN in one
 // archive, both would share code that the compiler then does not inline.
+#![tactic(auto)]
+
 ghost use Rattle.std.specs.Prelude.{◌≡◌, length};
 ghost use Rattle.closing_exports.specs.Exports.{close_answer, close_after};
 

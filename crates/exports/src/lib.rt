@@ -1,4 +1,6 @@
 // The functions that other languages call: numbers and byte slices only.
+#![tactic(auto)]
+
 ghost use Rattle.std.specs.Prelude.{◌≡◌};
 ghost use Rattle.field.specs.Read.{found, number_of, taken_of};
 ghost use Rattle.log.specs.Run.{ran};

@@ -1,5 +1,7 @@
 // The functions that other languages call on an image, a settlement as bytes that the caller keeps. They are a library of their own, beside `exports`:
 // in one library with RUN the compiler would not inline what both call, and RUN would be slower.
+#![tactic(auto)]
+
 ghost use Rattle.std.specs.Prelude.{◌≡◌};
 ghost use Rattle.consensus.specs.Events.{claim, deliver, step, lose, answer};
 ghost use Rattle.settlement.specs.Events.{opened};

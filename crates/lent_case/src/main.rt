@@ -1,6 +1,8 @@
 // Plays a script on one settlement that it lends, and writes a line for each call: what was called, and the answer.
 // A script is written as a log is, tag, two-byte length and body, with more tags than a log has (`command.rt`): so records may be made up
 // entry by entry, and BODY, REST, READ, RUN, lengths and comparisons asked. The same scripts are answered by a reading of document 01 in conformance/.
+#![tactic(auto)]
+
 mod command;
 mod made_up;
 mod parts;

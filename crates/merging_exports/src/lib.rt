@@ -1,5 +1,7 @@
 // MERGE as other languages call it: numbers and byte slices only. It is compiled by itself, as CLOSE is: beside RUN in one archive, both would share
 // code that the compiler then does not inline.
+#![tactic(auto)]
+
 ghost use Rattle.std.specs.Prelude.{◌≡◌, length};
 ghost use Rattle.merging.specs.Merge.{merge_buffer};
 ghost use Rattle.merging_exports.specs.Exports.{merge_answer};

@@ -1,4 +1,6 @@
 // Reads a log from standard input and prints the report of it. Where a read or a write fails, it says so on standard error.
+#![tactic(auto)]
+
 mod input;
 mod whole;
 

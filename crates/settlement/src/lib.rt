@@ -1,5 +1,7 @@
 // A settlement by value: the record, OPEN, the five events, LOOK, and LOOK at a ballot. Every public function is total, and equals a definition of specs/.
 
+#![tactic(auto)]
+
 pub mod events;
 pub mod fault;
 pub mod look;

@@ -4,19 +4,15 @@ use mathlib.Core.Bool.{true}
 use native.Mathlib.Omega.{arith}
 use Rattle.bits.specs.Words.{claim_bits, mask_bits, insert}
 use Rattle.bits.proofs.Words.{word_inside, word_outside}
-use Rattle.bits.proofs.mask.mask_with.Statement.{statement}
-use Rattle.bits.proofs.mask.mask_with.Tie as tie
+use Rattle.bits.proofs.mask.mask_with.Goals as goal
 
-returns : tie.Need-returns
+pub returns-then-s-ge-MASK_BITS : goal.returns-then-s-ge-MASK_BITS
 unfolding insert
-returns c = sym (word_outside mask_bits c.before.args.s true c.before.args.mask c.if1.true)
+returns-then-s-ge-MASK_BITS c = sym (word_outside mask_bits c.args.s true c.args.mask c.if-s-ge-MASK_BITS.true)
 
-returns-2 : tie.Need-returns-2
+pub returns : goal.returns
 unfolding insert
-returns-2 c =
-    let a = c.before.before.args in
+returns c =
+    let a = c.args in
     c.with_bit.ensures ∙ word_inside claim_bits a.s true a.mask (omega arith)
     ∙ sym (word_inside mask_bits a.s true a.mask (omega arith))
-
-pub mask-with-spec : {M : Type 1} → statement M
-mask-with-spec = tie.close (tie.spec returns (λ with-bit-requires κs. tt) returns-2)
