@@ -18,6 +18,10 @@ HERE = os.path.dirname(os.path.realpath(__file__))
 LIST = os.path.join(HERE, "respelled.tsv")
 
 
+# a library's name where it is cited by its path
+QUALIFIED = re.compile(r"(?<![\w.])(?:native|lib|borrow|mathlib|Prim|denote|program|Rattle\.std)(?:\.\w+)+\.$")
+
+
 def respelt(name):
     first, *rest = name.split("-")
     if first[0].isupper():
@@ -74,7 +78,7 @@ def main():
         new = dict(l.rstrip("\n").split("\t") for l in f)
 
     def turn(text, keep=frozenset()):
-        return TOKEN.sub(lambda m: m.group() if m.group() in keep else new.get(m.group(), m.group()), text)
+        return TOKEN.sub(lambda m: m.group() if m.group() in keep or QUALIFIED.search(text[: m.start()]) else new.get(m.group(), m.group()), text)
 
     for p in sources("crates/**/*.antt") + sources("crates/*/src/**/*.rt") + sources("docs/**/*.md") + ["README.md", "theorems.txt"]:
         if "/out/" in p:

@@ -30,10 +30,10 @@ ahead n j t = cond (leb j t) (t - j) (t + n - j)
 next_cursor : (n j : ℕ) → j < n → ((suc j ≡ n) × ((j + 1) % n ≡ 0)) ⊎ ((suc j < n) × ((j + 1) % n ≡ suc j))
 next_cursor n j l =
     by_bool (eqb (suc j) n)
-    (λ e. let last : suc j ≡ n = eqb-true (suc j) n e in inl (last, ap (λ (x : ℕ). x % n) (native.Mathlib.Numerals.add_one j ∙ last) ∙ mod_self n))
+    (λ e. let last : suc j ≡ n = eqb-true (suc j) n e in inl (last, ap (λ (x : ℕ). x % n) (native.Mathlib.Numerals.add-one j ∙ last) ∙ mod_self n))
     (λ e.
-    let more : suc j < n = lib.Arith.lt_of_le_ne l (eqb-false (suc j) n e) in
-    inr (more, ap (λ (x : ℕ). x % n) (native.Mathlib.Numerals.add_one j) ∙ mod-eq_of_lt more))
+    let more : suc j < n = lib.Arith.lt_of_le-ne l (eqb-false (suc j) n e) in
+    inr (more, ap (λ (x : ℕ). x % n) (native.Mathlib.Numerals.add-one j) ∙ mod-eq_of_lt more))
 
 ahead_is : (n j t : ℕ) → j < n → ((j ≤ t) × (ahead n j t ≡ t - j)) ⊎ ((t < j) × (ahead n j t ≡ t + n - j))
 unfolding ahead

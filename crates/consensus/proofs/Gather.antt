@@ -69,17 +69,17 @@ module _ (F : Figure) where
     pub fall : (x : View) {p q : F.Place} → F.line x p ≡ goes q → F.stop q ≡ false → suc (law.rank q) ≤ law.rank p
     fall x {p} {q} l n = subst (Falls F law.rank p) l (law.falls x p) n
 
-    onward_ends : (m : ℕ) (x : View) {p : F.Place} {d : Does F.Place} → Ends x p d → law.rank p ≤ m → onward F m x (F.line x p) ≡ d
-    onward_ends m x {d = d} (last l e) r = ap (onward F m x) l ∙ onward_ended m x d e
-    onward_ends zero x (more l n e) r = absurd (let f = fall x l n in omega arith)
-    onward_ends (suc m) x (more {q = q} l n e) r =
+    onward_ends : (x : View) (m : ℕ) {p : F.Place} {d : Does F.Place} → Ends x p d → law.rank p ≤ m → onward F m x (F.line x p) ≡ d
+    onward_ends x m {d = d} (last l e) r = ap (onward F m x) l ∙ onward_ended m x d e
+    onward_ends x zero (more l n e) r = absurd (let f = fall x l n in omega arith)
+    onward_ends x (suc m) (more {q = q} l n e) r =
         let f = fall x l n in
-        ap (onward F (suc m) x) l ∙ (onward_on m x q n ∙ onward_ends m x e (omega arith))
+        ap (onward F (suc m) x) l ∙ (onward_on m x q n ∙ onward_ends x m e (omega arith))
 
     -- an event has enough lines
     event_ends : (x : View) {p : F.Place} {d : Does F.Place} → Ends x p d → event F x p ≡ d
     unfolding event
-    event_ends x {p} e = onward_ends 4 x e (law.most p)
+    event_ends x {p} e = onward_ends x 4 e (law.most p)
 
     -- an event ends
     onward_stops : (m : ℕ) (x : View) (p : F.Place) (d : Does F.Place) → Falls F law.rank p d → law.rank p ≤ m → Ended (onward F m x d)

@@ -84,10 +84,10 @@ module _ (o : Opening) (st : State) (inv : Inv o st) where
 
 module _ (o : Opening) (st : State) where
   pub word_empty : Word o st 0 0
-  word_empty = record { answers = λ i l. absurd (native.Mathlib.Nat.not_suc_le_zero l); above = λ i l. bit_zero i }
+  word_empty = record { answers = λ i l. absurd (native.Mathlib.Nat.not-suc-le-zero l); above = λ i l. bit_zero i }
 
   pub fits_none : (t : ℕ) → Fits o st 0 t
-  fits_none t i l = absurd (native.Mathlib.Nat.not_suc_le_zero l)
+  fits_none t i l = absurd (native.Mathlib.Nat.not-suc-le-zero l)
 
   -- the answer of round k becomes bit k of the word
   pub word_more : (k d : ℕ) (a : Bool) → Word o st k d → st.answer_of (bit_ballot o k) ≡ some a → Word o st (suc k) (with_bit k a d)

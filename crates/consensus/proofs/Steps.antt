@@ -84,7 +84,7 @@ first_ok n rule_1 st s l h c =
 first_ok n rule_2 st s l h c = record {
   active = refl;
   more = λ b m. zero-le;
-  ok = record { round = λ i m. absurd (native.Mathlib.Nat.not_suc_le_zero m); word = Spelling.word_empty _ st; mine = h; fits = Spelling.fits_none (opening n rule_2) st s };
+  ok = record { round = λ i m. absurd (native.Mathlib.Nat.not-suc-le-zero m); word = Spelling.word_empty _ st; mine = h; fits = Spelling.fits_none (opening n rule_2) st s };
 }
 
 -- seeking ends at j
@@ -110,7 +110,7 @@ found_ok n rule_1 st s i j k d l h c x f =
     (λ e. record {
       active = refl;
       more = λ b m. m;
-      ok = record { round = lib.Arith.lt_of_le_ne x.round (eqb-false _ _ e); word = x.word; mine = h; fits = f };
+      ok = record { round = lib.Arith.lt_of_le-ne x.round (eqb-false _ _ e); word = x.word; mine = h; fits = f };
     })
 found_ok n rule_2 st s i j k d l h c x f = record {
   active = refl;
