@@ -10,7 +10,7 @@ pub const STATION_ENTRIES: u8 = 32;
 pub const BALLOT_ENTRIES: usize = 2 * WORD_BITS as usize;
 
 // Where a station stands. The two `Finish` stages are those of the finish ballot.
-#[derive(Drop)]
+#[derive(Clone, Copy)]
 pub enum Stage {
     Idle,
     Waiting,
@@ -25,7 +25,7 @@ pub enum Stage {
 // A station is a process; lost is crashed, and a claim is a proposed value.
 // `held` is the mask of the stations whose claims it holds; the claims themselves stay in their claimers' entries.
 // `cursor`, `round` and `word` are j, k and d of document 01; `decision` is the claim it decided.
-#[derive(Drop)]
+#[derive(Clone, Copy)]
 pub struct Station {
     pub stage: Stage,
     pub cursor: u8,
@@ -38,7 +38,7 @@ pub struct Station {
 }
 
 // A ballot is a binary consensus instance: the masks of the stations that cast 0 and 1 in it, whether it is answered, and the answer.
-#[derive(Drop)]
+#[derive(Clone, Copy)]
 pub struct Ballot {
     pub cast0: u32,
     pub cast1: u32,
