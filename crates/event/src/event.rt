@@ -2,7 +2,7 @@
 use bits::word::Word;
 
 // An event with its arguments: CLAIM s, v; DELIVER t, s; STEP s; LOSE s; ANSWER b, a.
-#[derive(Drop)]
+#[derive(Clone, Copy)]
 pub enum Event {
     Claim { s: u8, v: Word },
     Deliver { t: u8, s: u8 },

@@ -3,7 +3,7 @@ use bits::word::Word;
 use entry::entry::{BALLOT_ENTRIES, Ballot, STATION_ENTRIES, Station};
 
 // A settlement is one multivalued consensus: n stations, and rule 1 (by station) or 2 (by claim).
-#[derive(Drop)]
+#[derive(Clone, Copy)]
 pub struct Settlement {
     pub count: u8,
     pub rule: u8,
