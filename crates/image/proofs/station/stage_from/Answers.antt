@@ -1,0 +1,37 @@
+-- `image::station::stage_from`: each arm is the definition's, and the last is where the byte is none of the others. Assumes nothing.
+use Prim.Native.Nat.{ℕ}
+use borrow.Author.Tests.{ne_eqb}
+use Rattle.image.specs.Entries.{stage_from}
+use Rattle.image.proofs.station.stage_from.Goals as goal
+
+pub returns-in-1 : goal.returns-in-1
+unfolding stage_from
+returns-in-1 c = rw c.in-1.is
+
+pub returns-in-2 : goal.returns-in-2
+unfolding stage_from
+returns-in-2 c = rw c.in-2.is
+
+pub returns-in-3 : goal.returns-in-3
+unfolding stage_from
+returns-in-3 c = rw c.in-3.is
+
+pub returns-in-4 : goal.returns-in-4
+unfolding stage_from
+returns-in-4 c = rw c.in-4.is
+
+pub returns-in-5 : goal.returns-in-5
+unfolding stage_from
+returns-in-5 c = rw c.in-5.is
+
+pub returns-in-6 : goal.returns-in-6
+unfolding stage_from
+returns-in-6 c = rw c.in-6.is
+
+pub returns-in-7 : goal.returns-in-7
+unfolding stage_from
+returns-in-7 c = rw c.in-7.is
+
+pub returns-in_default : goal.returns-in_default
+unfolding stage_from
+returns-in_default c = let h = c.in_default in let x : ℕ = h in ?
