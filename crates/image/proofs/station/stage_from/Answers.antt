@@ -1,5 +1,4 @@
 -- `image::station::stage_from`: each arm is the definition's, and the last is where the byte is none of the others. Assumes nothing.
-use Prim.Native.Nat.{ℕ}
 use borrow.Author.Tests.{ne_eqb}
 use Rattle.image.specs.Entries.{stage_from}
 use Rattle.image.proofs.station.stage_from.Goals as goal
@@ -34,4 +33,4 @@ returns-in-7 c = rw c.in-7.is
 
 pub returns-in_default : goal.returns-in_default
 unfolding stage_from
-returns-in_default c = let h = c.in_default in let x : ℕ = h in ?
+returns-in_default c = let r = c.in_default.in_default-own.rest in rw (ne_eqb _ 1 r.0.0.0.0.0.0.1, ne_eqb _ 2 r.0.0.0.0.0.1, ne_eqb _ 3 r.0.0.0.0.1, ne_eqb _ 4 r.0.0.0.1, ne_eqb _ 5 r.0.0.1, ne_eqb _ 6 r.0.1, ne_eqb _ 7 r.1)
