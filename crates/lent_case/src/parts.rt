@@ -4,8 +4,8 @@ use crate::script::word;
 use event::event::Event;
 use field::field::Field;
 use field::read::{Reading, read};
-use log::rest::rest;
-use log::run::run;
+use logs::rest::rest;
+use logs::run::run;
 use settlement::record::Settlement;
 
 // A field's tag as document 01 has it, and its numbers; 0 where it has none.
