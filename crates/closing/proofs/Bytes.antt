@@ -16,10 +16,10 @@ use Rattle.consensus.proofs.Beginnings.{itself, not_empty}
 use Rattle.settlement.specs.Link.{record_after}
 use Rattle.settlement.proofs.Link.Demands.{demands}
 use Rattle.field.proofs.Found.{within}
-use Rattle.log.specs.declared.run.Replay.{Replay}
-use Rattle.log.specs.Run.{ran}
-use Rattle.log.specs.Demand.{size, Spells, all_taken, Played, RunTold}
-use Rattle.log.proofs.Played.{log_demand}
+use Rattle.logs.specs.declared.run.Replay.{Replay}
+use Rattle.logs.specs.Run.{ran}
+use Rattle.logs.specs.Demand.{size, Spells, all_taken, Played, RunTold}
+use Rattle.logs.proofs.Played.{log_demand}
 use Rattle.closing.specs.Closing.{closing}
 use Rattle.written.specs.Bytes.{log_bytes}
 use Rattle.closing.specs.Demand.{made, whole, Closes, PlaysOn}

@@ -13,7 +13,7 @@ use Rattle.field.specs.Table.{row_with}
 use Rattle.field.specs.Field.{length_said, claim_said, field_said}
 use Rattle.field.specs.Read.{found, found_by, found_in}
 use Rattle.put.specs.Bytes.{bytes}
-use Rattle.log.specs.Run.{next_in, by_outcome, by_next, turn, onwards, by_open, by_first, ran}
+use Rattle.logs.specs.Run.{next_in, by_outcome, by_next, turn, onwards, by_open, by_first, ran}
 use Rattle.closing.specs.Turn.{passing, turn_events}
 use Rattle.closing.specs.Closing as closing
 use Rattle.closing.specs.Closing.{and_then, and_all, turns, passes, greatest_below, step_bound, stuck}

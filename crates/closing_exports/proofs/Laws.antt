@@ -12,8 +12,8 @@ use Rattle.basics.proofs.Bools.{by_bool}
 use Rattle.consensus.specs.Rules.{as_bit}
 use Rattle.settlement.specs.declared.record.Settlement.{Settlement}
 use Rattle.settlement.specs.Laws.{Outside}
-use Rattle.log.specs.Run.{ran}
-use Rattle.log.specs.Demand.{size}
+use Rattle.logs.specs.Run.{ran}
+use Rattle.logs.specs.Demand.{size}
 use Rattle.closing.specs.Closing.{closing}
 use Rattle.closing.specs.Close.{closing_bytes, close_number, close_count, close_buffer}
 use Rattle.closing.specs.Demand.{PlaysOn}

@@ -1,6 +1,6 @@
 -- CLOSE as it is called from other languages: the closing log of the settlement that a log plays to, and an answer in one number. Assumes nothing.
 use Rattle.std.specs.Prelude.{ℕ, ◌+◌, ◌*◌, cond, List, eqb}
-use Rattle.log.specs.Run.{ran}
+use Rattle.logs.specs.Run.{ran}
 use Rattle.closing.specs.Close.{close_number, close_count, close_buffer}
 
 -- 4,294,967,296 times the number, and the count: RUN's status for a log that stops early, else CLOSE's

@@ -1,7 +1,7 @@
 -- What a caller reads off the answer (`include/dagmuize.h`) for a log of bytes: its number, its count, and the bytes of the buffer. Assumes nothing.
 use Rattle.std.specs.Prelude.{ℕ, ◌/◌, ◌%◌, ◌≤◌, ◌<◌, ◌≡◌, List, length, take, drop}
 use Rattle.consensus.specs.Rules.{as_bit}
-use Rattle.log.specs.Run.{ran}
+use Rattle.logs.specs.Run.{ran}
 use Rattle.closing.specs.Close.{closing_bytes}
 use Rattle.closing_exports.specs.Exports.{close_answer, close_after}
 

@@ -6,7 +6,7 @@ ghost use Rattle.std.specs.Prelude.{◌≡◌, length};
 ghost use Rattle.closing_exports.specs.Exports.{close_answer, close_after};
 
 use close::close::close;
-use log::run::run;
+use logs::run::run;
 
 // RUN, and the closing log of the settlement that it plays to: 4,294,967,296 times the number, and the count.
 #[unsafe(no_mangle)]

@@ -3,7 +3,7 @@
 
 ghost use Rattle.std.specs.Prelude.{◌≡◌};
 ghost use Rattle.field.specs.Read.{found, number_of, taken_of};
-ghost use Rattle.log.specs.Run.{ran};
+ghost use Rattle.logs.specs.Run.{ran};
 ghost use Rattle.field.specs.Table.{row_with};
 ghost use Rattle.exports.specs.Exports.{asked, put_answer, put_after};
 ghost use Rattle.report.specs.Report.{report};
@@ -15,7 +15,7 @@ use event::event::Event;
 use field::field::Field;
 use field::head::head_of;
 use field::table::{Kind, Known, row_with};
-use log::run::run;
+use logs::run::run;
 use put::put::put;
 use report::report::report;
 use whole_image::whole::{image_of_log, image_report};

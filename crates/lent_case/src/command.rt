@@ -9,7 +9,7 @@
 use crate::script::{byte, word};
 use crate::{made_up, parts, print, settled, show};
 use bits::word::{Difference, bit_length, first_difference};
-use log::rest::rest;
+use logs::rest::rest;
 use settlement::record::Settlement;
 use std::io;
 use std::io::Write;

@@ -1,7 +1,7 @@
 // Commands and numbers in a script's bytes: tag, two-byte length and body, as a field of a log. A byte past the end is 0.
 ghost use Rattle.std.specs.Prelude.{◌+◌, ◌≤◌, length};
 
-use log::rest::rest;
+use logs::rest::rest;
 
 pub(crate) fn byte(s: &[u8], i: usize) -> u8 {
     if i < s.len() { s[i] } else { 0 }

@@ -27,9 +27,9 @@ use Rattle.field.specs.declared.field.Field.TheVariants.{Open, Play}
 use Rattle.field.specs.declared.read.Reading.TheVariants.{Found}
 use Rattle.field.specs.Read.{found}
 use Rattle.put.proofs.Again.{read_again}
-use Rattle.log.specs.Demand.{size, Spells, all_taken, Played}
-use Rattle.log.proofs.Claims.{found_fits}
-use Rattle.log.proofs.Played.{log_demand}
+use Rattle.logs.specs.Demand.{size, Spells, all_taken, Played}
+use Rattle.logs.proofs.Claims.{found_fits}
+use Rattle.logs.proofs.Played.{log_demand}
 use Rattle.written.specs.Bytes.{log_bytes, onto}
 use Rattle.written.proofs.Spelled.{spelled}
 use Rattle.merging.specs.Merged.{OrderOf}

@@ -19,8 +19,8 @@ use Rattle.field.specs.declared.read.Reading.{Reading}
 use Rattle.field.specs.declared.read.Reading.TheVariants.{Found, Refused}
 use Rattle.field.specs.Read.{taken_of, found}
 use Rattle.field.proofs.Found.{within}
-use Rattle.log.specs.Demand.{first_unread, no_opening}
-use Rattle.log.proofs.Statuses.{open_refused}
+use Rattle.logs.specs.Demand.{first_unread, no_opening}
+use Rattle.logs.proofs.Statuses.{open_refused}
 use Rattle.merging.specs.Logs.{Rest, with_field, fields, by_first, log_read}
 use Rattle.merging.specs.Laws.{Reads, over, unread, reopened, event, note, LogTold, not_opened, opens_with}
 

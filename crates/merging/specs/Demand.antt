@@ -6,9 +6,9 @@ use Rattle.consensus.specs.Events.{History, Opening, Openable}
 use Rattle.consensus.specs.Terms.{ClaimsFit}
 use Rattle.settlement.specs.Link.{record_after}
 use Rattle.settlement.specs.Demands.{Demand3OfRecords}
-use Rattle.log.specs.declared.run.Replay.{Replay}
-use Rattle.log.specs.Run.{ran}
-use Rattle.log.specs.Demand.{size, Played}
+use Rattle.logs.specs.declared.run.Replay.{Replay}
+use Rattle.logs.specs.Run.{ran}
+use Rattle.logs.specs.Demand.{size, Played}
 use Rattle.merging.specs.Merged.{OrderOf}
 use Rattle.merging.specs.Logs.{log_read}
 use Rattle.merging.specs.Merge.{opening_of, merged_of, merged_list, merge_number, merge_bytes}

@@ -11,7 +11,7 @@ use Rattle.field.specs.declared.field.Field.TheVariants.{Open, Play, Note}
 use Rattle.field.specs.declared.read.Reading.TheVariants.{Found, Refused}
 use Rattle.field.specs.Read.{found}
 use Rattle.settlement.specs.Link.{rule_number}
-use Rattle.log.specs.Demand.{NotOpened}
+use Rattle.logs.specs.Demand.{NotOpened}
 use Rattle.merging.specs.Merged.{has_events, OrderOf, InTurn, NoOrder}
 use Rattle.merging.specs.Logs.{Log, log_read}
 use Rattle.merging.specs.Merge.{opening_of, merged_of, merge_number, merge_bytes, merge_count, merge_buffer}

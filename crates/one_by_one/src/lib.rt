@@ -1,7 +1,7 @@
 // A log played one event at a time through the public operations, by value or on a lent settlement. `./bench` times it beside RUN; it answers what RUN answers.
 #![tactic(auto)]
 
-ghost use Rattle.log.specs.Run.{ran};
+ghost use Rattle.logs.specs.Run.{ran};
 ghost use Rattle.report.specs.Report.{text_of};
 ghost use Rattle.report.specs.Written.{Printed};
 

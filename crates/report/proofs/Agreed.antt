@@ -33,10 +33,10 @@ use Rattle.settlement.specs.Link.{rule_number, record_after}
 use Rattle.field.specs.declared.field.Field.TheVariants.{Play}
 use Rattle.field.specs.declared.read.Reading.TheVariants.{Found}
 use Rattle.field.specs.Read.{found}
-use Rattle.log.specs.Run.{ran}
+use Rattle.logs.specs.Run.{ran}
 use Rattle.basics.specs.Bytes.{InBytes}
-use Rattle.log.specs.Demand.{Spells, nothing, event, note, Unopened, Played}
-use Rattle.log.proofs.Played.{log_demand}
+use Rattle.logs.specs.Demand.{Spells, nothing, event, note, Unopened, Played}
+use Rattle.logs.proofs.Played.{log_demand}
 use Rattle.report.specs.Quoted.{bytes_of}
 use Rattle.report.specs.Decimal.{decimal}
 use Rattle.report.specs.Text.{named, first_line, stage_word, decision_shown, presence, shown_line, station_line, station_lines, text, too_long_text}

@@ -6,7 +6,7 @@ use native.Mathlib.Omega.{arith}
 use lib.Dec.{ltb}
 use lib.ListN.{length}
 use Rattle.settlement.specs.declared.record.Settlement.{Settlement}
-use Rattle.log.specs.Run.{ran}
+use Rattle.logs.specs.Run.{ran}
 use Rattle.report.specs.Text.{first_line, text, too_long_text}
 use Rattle.report.specs.Report.{limit, text_of, report, NeverEmpty}
 

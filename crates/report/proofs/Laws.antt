@@ -14,7 +14,7 @@ use Rattle.entry.specs.Entries.{ballots}
 use Rattle.settlement.specs.declared.record.Settlement.{Settlement}
 use Rattle.settlement.specs.Record.{entry}
 use Rattle.settlement.specs.Look.{looked}
-use Rattle.log.specs.Run.{ran}
+use Rattle.logs.specs.Run.{ran}
 use Rattle.report.specs.Quoted.{bytes_of}
 use Rattle.report.specs.Decimal.{digit, digits, decimal}
 use Rattle.report.specs.Text.{named, first_line, stage_word, decision_shown, presence, shown_line, station_line, station_lines, text, too_long_text}

@@ -7,9 +7,9 @@ use Rattle.event.specs.declared.event.Event.TheVariants.{Claim}
 use Rattle.field.specs.declared.field.Field.TheVariants.{Open, Play}
 use Rattle.field.specs.declared.read.Reading.TheVariants.{Found}
 use Rattle.field.specs.Read.{found}
-use Rattle.log.specs.Run.{ran}
+use Rattle.logs.specs.Run.{ran}
 use Rattle.basics.specs.Bytes.{InBytes}
-use Rattle.log.specs.Demand.{Spells}
+use Rattle.logs.specs.Demand.{Spells}
 use Rattle.report.specs.Quoted.{bytes_of}
 use Rattle.report.specs.Decimal.{decimal}
 use Rattle.report.specs.Text.{named, presence}

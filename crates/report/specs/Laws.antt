@@ -2,7 +2,7 @@
 use Rattle.std.specs.Prelude.{ℕ, suc, ◌+◌, ◌≤◌, ◌<◌, ◌≡◌, true, false, cond, List, [], ◌∷◌, ◌++◌, eqb, length}
 use Rattle.entry.specs.declared.entry.Stage.TheVariants.{Idle, Waiting, Voting, Awaiting, Seeking, FinishVoting, FinishAwaiting, Decided}
 use Rattle.settlement.specs.declared.record.Settlement.{Settlement}
-use Rattle.log.specs.Run.{ran}
+use Rattle.logs.specs.Run.{ran}
 use Rattle.report.specs.Quoted.{bytes_of}
 use Rattle.report.specs.Decimal.{decimal, DecimalOf}
 use Rattle.report.specs.Text.{first_line, shown_line, text}

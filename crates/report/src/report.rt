@@ -5,7 +5,7 @@ ghost use Rattle.report.specs.Written.{Printed};
 
 use crate::text::report_of;
 use basics::writer::put_word;
-use log::run::run;
+use logs::run::run;
 
 // The longest log that is played, in bytes, and the most events.
 pub const LIMIT: usize = 65536;

@@ -14,7 +14,7 @@ use Rattle.settlement.specs.Link.{record_after}
 use Rattle.field.specs.Table.{row_with}
 use Rattle.field.specs.Field.{length_said, claim_said, field_said}
 use Rattle.field.specs.Read.{found_in, found_by, found}
-use Rattle.log.specs.Run.{by_outcome, next_in, by_next, turn, onwards, by_open, by_first, ran}
+use Rattle.logs.specs.Run.{by_outcome, next_in, by_next, turn, onwards, by_open, by_first, ran}
 use Rattle.report.specs.Decimal.{digits, decimal}
 use Rattle.report.specs.Text.{first_line, decision_shown, presence, shown_line, station_line, station_lines, text}
 use Rattle.report.specs.Report.{report}

@@ -13,8 +13,8 @@ use Rattle.settlement.specs.Events.{opened, played}
 use Rattle.settlement.specs.Look.{looked}
 use Rattle.settlement.specs.Link.{record_after, all_accepted}
 use Rattle.field.specs.Examples.{same}
-use Rattle.log.specs.declared.run.Replay.{Replay}
-use Rattle.log.specs.Run.{ran}
+use Rattle.logs.specs.declared.run.Replay.{Replay}
+use Rattle.logs.specs.Run.{ran}
 use Rattle.report.specs.Quoted.{bytes_of}
 use Rattle.report.specs.Report.{report}
 

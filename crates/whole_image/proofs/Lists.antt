@@ -13,9 +13,9 @@ use Rattle.settlement.specs.Fault.{fault}
 use Rattle.settlement.specs.Events.{blank, opened}
 use Rattle.settlement.specs.Link.{rule_number}
 use Rattle.settlement.proofs.Link.Demands.{demands}
-use Rattle.log.specs.Run.{ran}
-use Rattle.log.specs.Demand.{Unopened, Played}
-use Rattle.log.proofs.Played.{log_demand}
+use Rattle.logs.specs.Run.{ran}
+use Rattle.logs.specs.Demand.{Unopened, Played}
+use Rattle.logs.proofs.Played.{log_demand}
 use Rattle.report.specs.Report.{text_of}
 use Rattle.image.specs.Image.{image_of, RecordFits}
 use Rattle.image.proofs.Fits.{fresh_fits, after_fits}

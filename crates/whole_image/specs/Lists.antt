@@ -4,8 +4,8 @@ use Rattle.basics.specs.Bytes.{InBytes}
 use Rattle.consensus.specs.Events.{History, start, Opening, Openable}
 use Rattle.settlement.specs.Events.{opened}
 use Rattle.settlement.specs.Link.{rule_number}
-use Rattle.log.specs.Run.{ran}
-use Rattle.log.specs.Demand.{Played}
+use Rattle.logs.specs.Run.{ran}
+use Rattle.logs.specs.Demand.{Played}
 use Rattle.report.specs.Report.{text_of}
 use Rattle.image.specs.Image.{image_of}
 use Rattle.on_image.specs.Lists.{Stands}
