@@ -8,10 +8,10 @@ fn main() {
         return;
     }
     let here = env::var("CARGO_MANIFEST_DIR").expect("cargo names the package's folder");
-    let folder = Path::new(&here).join("../target/staticlib");
+    let folder = Path::new(&here).join("../crates/one_by_one/out");
     let archive = folder.join("libone_by_one.a");
     println!("cargo:rerun-if-changed={}", archive.display());
-    assert!(archive.exists(), "target/staticlib/libone_by_one.a is missing: `rt staticlib one_by_one` writes it");
+    assert!(archive.exists(), "crates/one_by_one/out/libone_by_one.a is missing: `rt lib` in crates/one_by_one writes it");
     println!("cargo:rustc-link-search=native={}", folder.display());
     println!("cargo:rustc-link-lib=static=one_by_one");
 }

@@ -108,7 +108,7 @@ extern "C" {
 }
 
 /// The text of a log that is played one event at a time, each lent or by value, from the archive that
-/// `rt staticlib one_by_one` writes. Safe: each pointer and length are those of one live slice.
+/// `rt lib` in crates/one_by_one writes. Safe: each pointer and length are those of one live slice.
 #[cfg(feature = "one_by_one")]
 pub fn one_by_one(lent: bool, log: &[u8], limit: usize, out: &mut [u8]) -> usize {
     unsafe { dagmuize_one_by_one(lent, log.as_ptr(), log.len(), limit, out.as_mut_ptr(), out.len()) }

@@ -62,7 +62,7 @@ impl Program {
     }
 
     fn run(&self, bytes: &[u8]) -> io::Result<Vec<u8>> {
-        let built = path("target/bin").join(self.name);
+        let built = path("crates").join(self.name).join("out").join(self.name);
         let mut program = Command::new(built).stdin(Stdio::piped()).stdout(Stdio::piped()).spawn()?;
         let mut input = program.stdin.take().expect("a pipe to it");
         let mut output = program.stdout.take().expect("a pipe from it");

@@ -6,6 +6,8 @@ use basics::buffer::byte_at;
 use close::close::close;
 use image::layout::IMAGE_BYTES;
 use settlement::record::Settlement;
+use std::io;
+use std::io::Write;
 use whole_image::record::{read_record, store_record};
 
 const WORDS: usize = 80;
@@ -20,26 +22,31 @@ pub(crate) const CASE: usize = ROOM + 2;
 const UNTOUCHED: u8 = 0xee;
 
 // Number and count, every byte of the buffer, and the image of the settlement after.
-fn closes(r: Settlement, preferred: u8, out: &mut [u8]) {
+fn closes<W: Write>(to: &mut W, r: Settlement, preferred: u8, out: &mut [u8]) -> io::Result<()> {
     let closed = close(r, preferred, out);
-    print::number(closed.number as u64);
-    print::text(b" ");
-    print::number(closed.count as u64);
-    print::text(b"\n");
-    print::line(out);
+    print::number(to, closed.number as u64)?;
+    print::text(to, b" ")?;
+    print::number(to, closed.count as u64)?;
+    print::text(to, b"\n")?;
+    print::line(to, out)?;
     let mut image = [0u8; IMAGE_BYTES];
     store_record(&mut image, closed.settlement, 0);
-    print::line(&image);
+    print::line(to, &image)
 }
 
-pub(crate) fn case(bytes: &[u8])
+pub(crate) fn case<W: Write>(to: &mut W, bytes: &[u8]) -> io::Result<()>
     requires { length bytes.now ≡ 1366 }
 {
-    print::text(&bytes[0..WORDS]);
+    print::text(to, &bytes[0..WORDS])?;
     let read = read_record(&bytes[WORDS..PREFERRED]);
     let high = byte_at(bytes, ROOM);
     let low = byte_at(bytes, ROOM + 1);
     let mut out = [UNTOUCHED; 65536];
-    let room = io::count((256 * (high as u32) + (low as u32)) as isize, &out);
-    closes(read.settlement, byte_at(bytes, PREFERRED), &mut out[..room]);
+    let room = 256 * (high as usize) + (low as usize);
+    closes(
+        to,
+        read.settlement,
+        byte_at(bytes, PREFERRED),
+        &mut out[..room],
+    )
 }

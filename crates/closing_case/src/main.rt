@@ -3,23 +3,27 @@
 #![tactic(auto)]
 
 mod case;
+mod input;
 mod print;
 
 use crate::case::{CASE, case};
-use libc::STDIN_FILENO;
+use crate::input::read_full;
+use std::io;
+use std::io::Write;
 
 // What is left after the last whole case is not read.
-fn each(cases: &[u8]) {
+fn each<W: Write>(to: &mut W, cases: &[u8]) -> io::Result<()> {
     let mut at: usize = 0;
     while CASE <= cases.len() - at {
         let end = at + CASE;
-        case(&cases[at..end]);
+        case(to, &cases[at..end])?;
         at = end;
     }
+    Ok(())
 }
 
-fn main() {
-    let mut bytes = io::large_buffer();
-    let count = io::read_full(STDIN_FILENO, &mut bytes);
-    each(&bytes[..count]);
+fn main(rt: HostRuntime) -> io::Result<()> {
+    let mut bytes = [0u8; 65536];
+    let count = read_full(&mut rt.stdin(), &mut bytes)?;
+    each(&mut rt.stdout(), &bytes[..count])
 }

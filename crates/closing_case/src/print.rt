@@ -1,41 +1,70 @@
 // Numbers, and bytes as hexadecimal digits, on standard output.
-use basics::buffer::four_at;
-use libc::STDOUT_FILENO;
+ghost use Rattle.std.specs.Prelude.{◌≡◌, ◌≤◌, ◌<◌, ◌++◌, length, take, codes, decimal, OnOk};
+ghost use Rattle.std.specs.Io.KnownBytes.{Appends};
+ghost use Rattle.closing_case.specs.Hex.{digit, hex_byte, hex};
 
-pub(crate) fn text(word: &[u8]) {
-    io::write_all(STDOUT_FILENO, word);
+use std::io;
+use std::io::Write;
+
+pub(crate) fn text<W: Write>(out: &mut W, word: &[u8]) -> io::Result<()>
+    ensures { OnOk result (Appends (W.contents out.old) (W.contents out.new) word.now) }
+{
+    out.write_all(word)
 }
 
-pub(crate) fn number(n: u64) {
-    io::print_decimal(STDOUT_FILENO, n);
+pub(crate) fn number<W: Write>(out: &mut W, n: u64) -> io::Result<()>
+    ensures { OnOk result (Appends (W.contents out.old) (W.contents out.new) (decimal n)) }
+{
+    write!(out, "{n}")
 }
 
-fn byte(x: u8) {
-    io::print_hex(STDOUT_FILENO, x as u64, 2);
+// The code of a digit below 16.
+fn digit(d: u8) -> u8
+    requires { d < 16 }
+    ensures { result ≡ digit d }
+{
+    if d < 10 { b'0' + d } else { 87 + d }
+}
+
+fn byte<W: Write>(out: &mut W, x: u8) -> io::Result<()>
+    ensures { OnOk result (Appends (W.contents out.old) (W.contents out.new) (hex_byte x)) }
+{
+    out.write_all(&[digit(x / 16), digit(x % 16)])
 }
 
 // The eight bytes at the part's start.
-fn eight(part: &[u8]) {
-    let high = four_at(part, 0) as u64;
-    let low = four_at(part, 4) as u64;
-    io::print_hex(STDOUT_FILENO, high * 4294967296 + low, 16);
+fn eight<W: Write>(out: &mut W, part: &[u8]) -> io::Result<()>
+    requires { 8 ≤ length part.now }
+    ensures { OnOk result (Appends (W.contents out.old) (W.contents out.new) (hex (take 8 part.now))) }
+{
+    let mut digits = [0u8; 16];
+    for i in 0..8usize {
+        digits[2 * i] = digit(part[i] / 16);
+        digits[2 * i + 1] = digit(part[i] % 16);
+    }
+    out.write_all(&digits)
 }
 
 // Each byte as two digits; eight at a time, which is quicker.
-fn bytes(s: &[u8]) {
+fn bytes<W: Write>(out: &mut W, s: &[u8]) -> io::Result<()>
+    ensures { OnOk result (Appends (W.contents out.old) (W.contents out.new) (hex s.now)) }
+{
     let mut i: usize = 0;
     while i < s.len() {
         if s.len() - i < 8 {
-            byte(s[i]);
+            byte(out, s[i])?;
             i += 1;
         } else {
-            eight(&s[i..]);
+            eight(out, &s[i..])?;
             i += 8;
         }
     }
+    Ok(())
 }
 
-pub(crate) fn line(s: &[u8]) {
-    bytes(s);
-    text(b"\n");
+pub(crate) fn line<W: Write>(out: &mut W, s: &[u8]) -> io::Result<()>
+    ensures { OnOk result (Appends (W.contents out.old) (W.contents out.new) (hex s.now ++ codes "\n")) }
+{
+    bytes(out, s)?;
+    text(out, b"\n")
 }

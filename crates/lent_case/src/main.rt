@@ -4,6 +4,7 @@
 #![tactic(auto)]
 
 mod command;
+mod input;
 mod made_up;
 mod parts;
 mod print;
@@ -11,26 +12,34 @@ mod script;
 mod settled;
 mod show;
 
-use libc::STDIN_FILENO;
+use crate::input::read_full;
 use settlement::open::open;
+use std::io;
+use std::io::Write;
 
 // Command after command; a last one whose body is cut short is not played.
-fn play(script: &[u8]) {
+fn play<W: Write>(out: &mut W, script: &[u8]) -> io::Result<()> {
     let opened = open(0, 0);
     let mut r = opened.settlement;
     let mut at: usize = 0;
     while at < script.len() {
         let size = script::size(script, at);
         if script.len() - at < size {
-            return;
+            return Ok(());
         }
-        r = command::command(script::byte(script, at), script::body(script, at, size), r);
+        r = command::command(
+            out,
+            script::byte(script, at),
+            script::body(script, at, size),
+            r,
+        )?;
         at += size;
     }
+    Ok(())
 }
 
-fn main() {
-    let mut bytes = io::large_buffer();
-    let count = io::read_full(STDIN_FILENO, &mut bytes);
-    play(&bytes[..count]);
+fn main(rt: HostRuntime) -> io::Result<()> {
+    let mut bytes = [0u8; 65536];
+    let count = read_full(&mut rt.stdin(), &mut bytes)?;
+    play(&mut rt.stdout(), &bytes[..count])
 }

@@ -1,5 +1,8 @@
-// A descriptor read to its end.
-ghost use Rattle.io.specs.Counts.{IsPrefixLen};
+// A reader read to its end.
+ghost use Rattle.std.specs.Prelude.{◌≡◌, ◌≤◌, length, take, IsTrue, ◌⊎◌};
+ghost use Rattle.std.specs.Io.KnownBytes.{Consumes, IsAtEnd};
+
+use std::io::Read;
 
 // How many bytes were put at the start of the buffer, and whether a read failed; if none did, the input ended or the buffer is full.
 #[derive(Drop)]
@@ -8,19 +11,25 @@ pub(crate) struct Input {
     pub(crate) failed: bool,
 }
 
-pub(crate) fn read_input(fd: i32, buffer: &mut [u8]) -> Input
-    ensures { IsPrefixLen result.length buffer.new }
+pub(crate) fn read_input<R: Read>(reader: &mut R, buffer: &mut [u8]) -> Input
+    ensures in_bounds { result.length ≤ length buffer.new }
+    ensures prefix_len { result.length ≡ length (take result.length buffer.new) }
+    ensures bytes { Consumes (R.remaining reader.old) (R.remaining reader.new) (take result.length buffer.new) }
+    ensures end { IsTrue result.failed ⊎ (result.length ≡ length buffer.new) ⊎ IsAtEnd (R.remaining reader.new) }
 {
     let mut length = 0;
     while length < buffer.len() {
-        let got = libc::read(fd, &mut buffer[length..]);
-        if got <= 0 {
-            return Input {
+        match reader.read(&mut buffer[length..]) {
+            Ok(0) => return Input {
                 length,
-                failed: got < 0,
-            };
+                failed: false,
+            },
+            Ok(n) => length += n,
+            Err(_) => return Input {
+                length,
+                failed: true,
+            },
         }
-        length += got as usize;
     }
     Input {
         length,

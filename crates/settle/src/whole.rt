@@ -1,6 +1,5 @@
 // The report of a log in a buffer of its own, which no text is too long for.
-ghost use Rattle.std.specs.Prelude.{◌≡◌, take};
-ghost use Rattle.io.specs.Counts.{IsPrefixLen};
+ghost use Rattle.std.specs.Prelude.{◌≡◌, ◌≤◌, length, take};
 ghost use Rattle.report.specs.Report.{report};
 
 use report::report::report;
@@ -16,7 +15,8 @@ pub(crate) struct Whole {
 
 pub(crate) fn whole_report(log: &[u8]) -> Whole
     ensures bytes_value { take result.length result.bytes ≡ report log.now }
-    ensures prefix_len { IsPrefixLen result.length result.bytes }
+    ensures in_bounds { result.length ≤ length result.bytes }
+    ensures prefix_len { result.length ≡ length (take result.length result.bytes) }
 {
     let mut bytes = [0u8; ENOUGH];
     let length = report(log, &mut bytes);

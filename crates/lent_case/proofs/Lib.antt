@@ -1,0 +1,3 @@
+-- Laws that belong to no one function.
+--     Filled    a part of a list that was filled, after its front
+pub mod Filled
