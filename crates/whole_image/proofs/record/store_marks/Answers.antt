@@ -1,0 +1,34 @@
+-- `whole_image::record::store_marks`: entry by entry, from where who voted ends; the measure is what is left of them. Assumes nothing.
+use mathlib.Core.Path.{◌≡◌}
+use native.Mathlib.Omega.{arith}
+use lib.ListN.{length}
+use borrow.Author.Rules.{rules}
+use Rattle.basics.proofs.Lists.{unmapped_length}
+use Rattle.entry.specs.Entries.{station_entries, ballot_entries}
+use Rattle.image.specs.Image.{image_bytes, image_of}
+use Rattle.image.proofs.Image.{image_long, marks_bytes_at}
+use Rattle.whole_image.proofs.Partly.{stored_from, stored_more, stored_whole}
+use Rattle.whole_image.proofs.record.store_marks.Goals as goal
+
+pub loop-k-init : goal.loop-k-init
+loop-k-init c = (search rules, stored_from c.requires.0 c.requires.1)
+
+pub loop-k-preserved : goal.loop-k-preserved
+loop-k-preserved c =
+    let start = c in
+    let turn = c in
+    let r = start.args.r in
+    let stations : length r.stations ≡ station_entries = search (unmapped_length, rules) in
+    let ballots : length r.ballots ≡ ballot_entries = search (unmapped_length, rules) in
+    let there = marks_bytes_at r stations ballots turn.loop-k.k (omega arith) in
+    (omega arith, stored_more (image_of r) start.args.image.now image_bytes (image_long r stations ballots) start.requires.0 there turn.loop-k.invariant.1 c.write_marks.ensures)
+
+pub returns : goal.returns
+returns c =
+    let start = c in
+    let r = start.args.r in
+    let k = c.loop-k.k in
+    let e : k ≡ ballot_entries = omega arith in
+    let stations : length r.stations ≡ station_entries = search (unmapped_length, rules) in
+    let ballots : length r.ballots ≡ ballot_entries = search (unmapped_length, rules) in
+    stored_whole (image_long r stations ballots) start.requires.0 (rw e at c.loop-k.invariant.1)
