@@ -9,7 +9,6 @@ use lib.Dec.{eqb}
 use borrow.Author.Tests.{eqb-false, ne_eqb}
 use Rattle.basics.proofs.Bools.{by_bool}
 use Rattle.consensus.specs.Events.{Event, History, start, ◌▷◌, Opening, Openable}
-use Rattle.consensus.specs.Rules.{number}
 use Rattle.consensus.specs.Terms.{Beginning, ClaimsFit}
 use Rattle.settlement.specs.declared.record.Settlement.{Settlement}
 use Rattle.settlement.specs.declared.record.Standing.{Standing}
