@@ -1,5 +1,5 @@
 -- A text taken apart at its line feeds, and a line at its spaces: neither stands in a number or in a word of the text. Assumes nothing.
-use Prim.Native.Nat.{ℕ, zero, suc, ◌+◌, ◌/◌, ◌%◌, ◌<◌}
+use Prim.Native.Nat.{ℕ, zero, suc, ◌/◌, ◌%◌, ◌<◌}
 use mathlib.Core.Path.{◌≡◌, refl, sym, subst, ◌∙◌, ap}
 use mathlib.Core.Logic.{◌⊎◌, inl, inr}
 use mathlib.Core.Bool.{Bool, true, false, cond, not, ◌&&◌}
@@ -13,7 +13,6 @@ use Rattle.basics.proofs.Bools.{no_clash, and_true}
 use Rattle.consensus.specs.Told.{Listed}
 use Rattle.entry.specs.declared.entry.Stage.{Stage}
 use Rattle.entry.specs.declared.entry.Stage.TheVariants.{Idle, Waiting, Voting, Awaiting, Seeking, FinishVoting, FinishAwaiting, Decided}
-use Rattle.entry.specs.Entries.{ballots}
 use Rattle.report.specs.Quoted.{bytes_of}
 use Rattle.report.specs.Decimal.{digit, digits, decimal}
 use Rattle.report.specs.Text.{named, stage_word, decision_shown, presence, station_lines}
