@@ -12,7 +12,7 @@ use Rattle.basics.proofs.Bools.{by_bool, cond_ind}
 use Rattle.bits.specs.Digits.{bit_length}
 use Rattle.bits.specs.Log.{ceil_log2}
 use Rattle.bits.proofs.Log.{log_le}
-use Rattle.consensus.specs.Events.{Event, claim, History, start, ◌▷◌, Rule, rule_1, rule_2, Opening, Openable}
+use Rattle.consensus.specs.Events.{Event, History, start, ◌▷◌, Rule, rule_1, rule_2, Opening, Openable}
 use Rattle.consensus.specs.State as play
 use Rattle.consensus.specs.Rules.{number, after}
 use Rattle.consensus.specs.Terms.{ClaimsFit, PutIn, longest}

@@ -2,7 +2,7 @@
 -- turn. So one that is left after so many passes has taken as many STEPs. Assumes nothing.
 use Prim.Native.Nat.{ℕ, zero, suc, ◌+◌, ◌<◌, ◌≤◌, zero-le}
 use mathlib.Core.Path.{◌≡◌, refl, sym, subst, ◌∙◌, ap}
-use mathlib.Core.Logic.{◌⊎◌, ⊎_elim}
+use mathlib.Core.Logic.{⊎_elim}
 use mathlib.Core.Bool.{Bool, true, false}
 use mathlib.Core.List.{List, [], ◌∷◌}
 use native.Mathlib.Nat.{le_refl, le_trans, eq-or-lt_of_le}
@@ -13,7 +13,7 @@ use Rattle.consensus.specs.Events.{Event, step, History, ◌▷◌, Opening, Ope
 use Rattle.consensus.specs.Terms.{ClaimsFit, is_step}
 use Rattle.consensus.specs.Told.{followed_by}
 use Rattle.settlement.specs.declared.record.Settlement.{Settlement}
-use Rattle.settlement.specs.Events.{number, played}
+use Rattle.settlement.specs.Events.{played}
 use Rattle.settlement.specs.Link.{record_after}
 use Rattle.closing.specs.Turn.{left, some_left, turn_events}
 use Rattle.closing.specs.Closing.{Closing, by_outcome, and_then, turn, turns, pass, passes}

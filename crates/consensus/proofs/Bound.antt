@@ -15,7 +15,7 @@ use Rattle.bits.specs.Log.{ceil_log2}
 use Rattle.bits.proofs.Words.{bits_agree}
 use Rattle.consensus.specs.Events.{Rule, rule_1, rule_2, Opening, rounds}
 use Rattle.consensus.specs.State.{Stage, idle, waiting, voting, awaiting, seeking, finish_voting, finish_awaiting, decided, State, claim_of, held}
-use Rattle.consensus.specs.Rules.{spelled, first_stage, stage_after_seek, sought, finished, next}
+use Rattle.consensus.specs.Rules.{spelled, first_stage, stage_after_seek, sought, finished}
 use Rattle.basics.proofs.Bools.{by_bool, cond_ind, no_clash}
 use Rattle.consensus.proofs.Invariant.{Fits, Word, Seeking}
 use Rattle.consensus.proofs.Steps.{opening}

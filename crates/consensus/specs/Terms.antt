@@ -1,6 +1,6 @@
 -- The words of demands 2 and 3 (document 01, "Lists of events"), read off a list of events with the play alongside:
 -- each is a recursion over the list, and asks the play only which events were accepted and where a station stood. Assumes nothing.
-use Rattle.std.specs.Prelude.{ℕ, suc, ◌+◌, ◌^◌, ◌<◌, max, ◌≡◌, ◌⊎◌, Bool, true, false, cond, ◌&&◌, List, [], ◌∷◌, ◌++◌, eqb}
+use Rattle.std.specs.Prelude.{ℕ, suc, ◌^◌, ◌<◌, max, ◌≡◌, ◌⊎◌, Bool, true, false, cond, ◌&&◌, List, [], ◌∷◌, ◌++◌, eqb}
 use Rattle.std.proofs.Math.Option.{Option, none, some}
 use Rattle.bits.specs.Digits.{bit_length}
 use Rattle.bits.specs.Words.{claim_bits}

@@ -12,7 +12,7 @@ use Rattle.bits.specs.Digits.{bit}
 use Rattle.bits.specs.Words.{claim_bits, low_agree, member, insert}
 use Rattle.bits.proofs.Masks.{member_same, member_other}
 use Rattle.bits.proofs.Words.{word_same, word_other, agree_bits, bits_agree}
-use Rattle.consensus.specs.Events.{claim, step, answer}
+use Rattle.consensus.specs.Events.{step}
 use Rattle.entry.specs.declared.entry.Stage.{Stage}
 use Rattle.entry.specs.declared.entry.Stage.TheVariants.{Waiting, Voting, Awaiting, Seeking, FinishVoting, FinishAwaiting, Decided}
 use Rattle.entry.specs.declared.entry.Ballot.{Ballot}

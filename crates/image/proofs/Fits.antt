@@ -19,7 +19,7 @@ use Rattle.entry.specs.declared.entry.Stage.{Stage}
 use Rattle.entry.specs.declared.entry.Stage.TheVariants.{Idle, Waiting, Voting, Awaiting, Seeking, FinishVoting, FinishAwaiting, Decided}
 use Rattle.entry.specs.declared.entry.Station.{Station}
 use Rattle.entry.specs.Stages.{at}
-use Rattle.entry.specs.Entries.{station_entries, by_station, blank_station, blank_ballot, moved, casting}
+use Rattle.entry.specs.Entries.{by_station, blank_station, blank_ballot, moved, casting}
 use Rattle.event.specs.declared.view.View.{View}
 use Rattle.event.specs.Places.{own_of, next_cursor}
 use Rattle.event.specs.Step.{next_round, at_once, started, staged, bit_taken, finish_taken, last_round, entry_after_seek, seeking_ends, sought, stepped, bit_voted, finish_voted, voted}

@@ -18,7 +18,7 @@ use Rattle.basics.proofs.Bytes.{bytes_after}
 use Rattle.basics.proofs.Refusals.{refused_not}
 use Rattle.entry.specs.declared.entry.Station.{Station}
 use Rattle.entry.specs.declared.entry.Ballot.{Ballot}
-use Rattle.entry.specs.Entries.{station_entries, ballot_entries, blank_station, blank_ballot}
+use Rattle.entry.specs.Entries.{blank_station, blank_ballot}
 use Rattle.settlement.specs.declared.record.Settlement.{Settlement}
 use Rattle.settlement.specs.Record.{entry, ballot, with_station, with_ballot}
 use Rattle.image.specs.Lists.{flat, each}

@@ -1,9 +1,8 @@
 -- `basics::writer::put_word`: byte by byte; the measure is what is left of the word. Assumes nothing.
-use Prim.Native.Nat.{◌-◌}
 use mathlib.Core.Path.{◌≡◌}
 use native.Mathlib.Omega.{arith}
 use native.Mathlib.Numerals.{add-one}
-use lib.ListN.{length, take}
+use lib.ListN.{length}
 use lib.Seq.{take-suc, take_all}
 use Rattle.basics.proofs.Written.{and_then, nothing, kept}
 use Rattle.basics.proofs.writer.put_word.Goals as goal

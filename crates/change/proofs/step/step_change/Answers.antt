@@ -14,6 +14,7 @@ returns-in-Voting c = rw (c.casts.ensures, c.bit_voted.ensures, c.early-in-Votin
 pub returns-in-FinishVoting : goal.returns-in-FinishVoting
 unfolding first_met own_after ballot_after stepped voted
 returns-in-FinishVoting c = rw (c.casts-in-FinishVoting.ensures, c.early-in-FinishVoting.ensures, c.in-FinishVoting.is)
+
 pub returns-in-Idle : goal.returns-in-Idle
 unfolding first_met own_after ballot_after stepped voted
 returns-in-Idle c = rw (c.stays.ensures, c.early.ensures, c.in-Idle.is) (rw (← c.in-Idle.is) refl)
@@ -37,4 +38,3 @@ returns-in-FinishAwaiting c = rw (c.stays-in-FinishAwaiting.ensures, c.finish_ta
 pub returns-in-Decided : goal.returns-in-Decided
 unfolding first_met own_after ballot_after stepped voted
 returns-in-Decided c = rw (c.stays-in-Decided.ensures, c.early-in-Decided.ensures, c.in-Decided.is) (rw (← c.in-Decided.is) refl)
-

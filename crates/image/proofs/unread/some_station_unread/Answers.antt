@@ -1,10 +1,9 @@
 -- `image::unread::some_station_unread`: `found` is the definition at the stations passed; the measure is what is left of them. Assumes nothing.
-use Prim.Native.Nat.{ℕ, ◌-◌}
+use Prim.Native.Nat.{ℕ}
 use mathlib.Core.Path.{◌≡◌, refl, ap, ◌∙◌}
 use native.Mathlib.Omega.{arith}
 use native.Mathlib.Numerals.{add-one}
 use native.Mathlib.Nat.{add-zero}
-use lib.ListN.{drop}
 use lib.Seq.{get_or-drop}
 use borrow.Author.Rules.{rules}
 use Rattle.basics.specs.Below.{any_below}

@@ -1,5 +1,5 @@
 -- `settlement::fault::some_station_faulty`: `found` is the definition at the stations passed; the measure is what is left of them. Assumes nothing.
-use Prim.Native.Nat.{ℕ, ◌-◌}
+use Prim.Native.Nat.{ℕ}
 use mathlib.Core.Path.{◌≡◌, refl, ap, ◌∙◌}
 use native.Mathlib.Omega.{arith}
 use native.Mathlib.Numerals.{add-one}
