@@ -16,9 +16,8 @@ loop-s-init c = (search rules, refl)
 
 pub returns : goal.returns
 returns c =
-    let start = c in
-    let e : c.loop-s.s ≡ start.args.n = omega arith in
-    c.loop-s.invariant.1 ∙ ap (λ (k : ℕ). any_below k (fault_at (record_in start.args.image.now))) e
+    let e : c.loop-s.s ≡ c.args.n = omega arith in
+    c.loop-s.invariant.1 ∙ ap (λ (k : ℕ). any_below k (fault_at (record_in c.args.image.now))) e
 
 pub loop-s-preserved : goal.loop-s-preserved
 unfolding any_below

@@ -10,8 +10,7 @@ use Rattle.on_image.proofs.look.look_number.Goals as goal
 
 pub returns-then-number-ne0 : goal.returns-then-number-ne0
 returns-then-number-ne0 c =
-    let start = c in
-    let none = no_image_shown start.args.image.now start.args.s (rw c.no_image-number.ensures at c.if-number-ne0.true) in
+    let none = no_image_shown c.args.image.now c.args.s (rw c.no_image-number.ensures at c.if-number-ne0.true) in
     c.no_image-number.ensures ∙ sym (ap (λ (t : Standing). t.number) none)
 
 pub bounds-image-1 : goal.bounds-image-1
@@ -23,8 +22,7 @@ faulty_in-requires c = (is_image c.args.image.now (sym c.no_image-number.ensures
 pub returns : goal.returns
 unfolding first_met record_in
 returns c =
-    let start = c in
-    let b = start.args.image.now in
+    let b = c.args.image.now in
     let zero = sym c.no_image-number.ensures ∙ c.if-number-ne0.false in
     rw (c.refuse-2.ensures, c.refuse.ensures, c.no_station.ensures, c.faulty_in.ensures)
-    (sym (ap (λ (t : Standing). t.number) (image_shown b start.args.s zero) ∙ its_number (record_in b) start.args.s))
+    (sym (ap (λ (t : Standing). t.number) (image_shown b c.args.s zero) ∙ its_number (record_in b) c.args.s))

@@ -5,14 +5,13 @@ use Rattle.on_image.proofs.Looks.{image_shown, nothing_shown, something_shown}
 use Rattle.on_image.proofs.look.look_on.Goals as goal
 
 pub returns-then-number-ne0 : goal.returns-then-number-ne0
-returns-then-number-ne0 c = let start = c in rw c.look_number-number.ensures (nothing_shown start.args.image.now start.args.s (rw c.look_number-number.ensures at c.if-number-ne0.true))
+returns-then-number-ne0 c = rw c.look_number-number.ensures (nothing_shown c.args.image.now c.args.s (rw c.look_number-number.ensures at c.if-number-ne0.true))
 
 pub returns : goal.returns
 returns c =
-    let start = c in
-    let b = start.args.image.now in
-    let both = something_shown b start.args.s (sym c.look_number-number.ensures ∙ c.if-number-ne0.false) in
-    c.standing_at.ensures ∙ sym (image_shown b start.args.s both.0)
+    let b = c.args.image.now in
+    let both = something_shown b c.args.s (sym c.look_number-number.ensures ∙ c.if-number-ne0.false) in
+    c.standing_at.ensures ∙ sym (image_shown b c.args.s both.0)
 
 pub standing_at-requires : goal.standing_at-requires
 standing_at-requires c =

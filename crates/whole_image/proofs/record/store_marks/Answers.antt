@@ -15,20 +15,17 @@ loop-k-init c = (search rules, stored_from c.requires.0 c.requires.1)
 
 pub loop-k-preserved : goal.loop-k-preserved
 loop-k-preserved c =
-    let start = c in
-    let turn = c in
-    let r = start.args.r in
+    let r = c.args.r in
     let stations : length r.stations ≡ station_entries = search (unmapped_length, rules) in
     let ballots : length r.ballots ≡ ballot_entries = search (unmapped_length, rules) in
-    let there = marks_bytes_at r stations ballots turn.loop-k.k (omega arith) in
-    (omega arith, stored_more (image_of r) start.args.image.now image_bytes (image_long r stations ballots) start.requires.0 there turn.loop-k.invariant.1 c.write_marks.ensures)
+    let there = marks_bytes_at r stations ballots c.loop-k.k (omega arith) in
+    (omega arith, stored_more (image_of r) c.args.image.now image_bytes (image_long r stations ballots) c.requires.0 there c.loop-k.invariant.1 c.write_marks.ensures)
 
 pub returns : goal.returns
 returns c =
-    let start = c in
-    let r = start.args.r in
+    let r = c.args.r in
     let k = c.loop-k.k in
     let e : k ≡ ballot_entries = omega arith in
     let stations : length r.stations ≡ station_entries = search (unmapped_length, rules) in
     let ballots : length r.ballots ≡ ballot_entries = search (unmapped_length, rules) in
-    stored_whole (image_long r stations ballots) start.requires.0 (rw e at c.loop-k.invariant.1)
+    stored_whole (image_long r stations ballots) c.requires.0 (rw e at c.loop-k.invariant.1)

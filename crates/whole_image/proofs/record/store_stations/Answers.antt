@@ -20,18 +20,15 @@ loop-s-init c =
 
 pub loop-s-preserved : goal.loop-s-preserved
 loop-s-preserved c =
-    let start = c in
-    let turn = c in
-    let r = start.args.r in
+    let r = c.args.r in
     let stations : length r.stations ≡ station_entries = search (unmapped_length, rules) in
     let ballots : length r.ballots ≡ ballot_entries = search (unmapped_length, rules) in
-    let there = station_bytes_at r stations ballots turn.loop-s.s (omega arith) in
-    (omega arith, turn.loop-s.invariant.1, stored_more (image_of r) _ image_bytes (image_long r stations ballots) turn.loop-s.invariant.1 there turn.loop-s.invariant.2 c.write_station.ensures)
+    let there = station_bytes_at r stations ballots c.loop-s.s (omega arith) in
+    (omega arith, c.loop-s.invariant.1, stored_more (image_of r) _ image_bytes (image_long r stations ballots) c.loop-s.invariant.1 there c.loop-s.invariant.2 c.write_station.ensures)
 
 pub returns : goal.returns
 returns c =
-    let start = c in
-    let r = start.args.r in
+    let r = c.args.r in
     let s = c.loop-s.s in
     let e : s ≡ station_entries = omega arith in
     let stations : length r.stations ≡ station_entries = search (unmapped_length, rules) in

@@ -20,9 +20,8 @@ loop-k-init c = (search rules, refl)
 pub loop-k-preserved : goal.loop-k-preserved
 unfolding record_in
 loop-k-preserved c =
-    let start = c in
-    let image = start.args.image.now in
-    let ballots = start.args.r.ballots in
+    let image = c.args.image.now in
+    let ballots = c.args.r.ballots in
     let k = c.loop-k.k in
     let inside : k < ballot_entries = omega arith in
     let l : length ballots ≡ ballot_entries = search (unmapped_length, rules) in
@@ -32,9 +31,8 @@ loop-k-preserved c =
 
 pub returns : goal.returns
 returns c =
-    let start = c in
-    let image = start.args.image.now in
-    let ballots = start.args.r.ballots in
+    let image = c.args.image.now in
+    let ballots = c.args.r.ballots in
     let k = c.loop-k.k in
     let e : k ≡ ballot_entries = omega arith in
     let l : length ballots ≡ ballot_entries = search (unmapped_length, rules) in

@@ -20,9 +20,8 @@ loop-s-init c = (search rules, refl)
 pub loop-s-preserved : goal.loop-s-preserved
 unfolding record_in
 loop-s-preserved c =
-    let start = c in
-    let image = start.args.image.now in
-    let stations = start.args.r.stations in
+    let image = c.args.image.now in
+    let stations = c.args.r.stations in
     let s = c.loop-s.s in
     let inside : s < station_entries = omega arith in
     let l : length stations ≡ station_entries = search (unmapped_length, rules) in
@@ -32,9 +31,8 @@ loop-s-preserved c =
 
 pub returns : goal.returns
 returns c =
-    let start = c in
-    let image = start.args.image.now in
-    let stations = start.args.r.stations in
+    let image = c.args.image.now in
+    let stations = c.args.r.stations in
     let s = c.loop-s.s in
     let e : s ≡ station_entries = omega arith in
     let l : length stations ≡ station_entries = search (unmapped_length, rules) in
