@@ -3,6 +3,7 @@ ghost use Rattle.std.specs.Prelude.{◌≡◌, ◌≤◌, ◌<◌, ◌++◌, len
 ghost use Rattle.std.specs.Io.KnownBytes.{Appends};
 ghost use Rattle.closing_case.specs.Hex.{digit, hex_byte, hex};
 
+use basics::buffer::byte_at;
 use std::io;
 use std::io::Write;
 
@@ -32,15 +33,15 @@ fn byte<W: Write>(out: &mut W, x: u8) -> io::Result<()>
     out.write_all(&[digit(x / 16), digit(x % 16)])
 }
 
-// The eight bytes at the part's start.
+// The eight bytes at the part's start; what a shorter part lacks is 0.
 fn eight<W: Write>(out: &mut W, part: &[u8]) -> io::Result<()>
-    requires { 8 ≤ length part.now }
-    ensures { OnOk result (Appends (W.contents out.old) (W.contents out.new) (hex (take 8 part.now))) }
+    ensures { OnOk result (8 ≤ length part.now → Appends (W.contents out.old) (W.contents out.new) (hex (take 8 part.now))) }
 {
     let mut digits = [0u8; 16];
     for i in 0..8usize {
-        digits[2 * i] = digit(part[i] / 16);
-        digits[2 * i + 1] = digit(part[i] % 16);
+        let x = byte_at(part, i);
+        digits[2 * i] = digit(x / 16);
+        digits[2 * i + 1] = digit(x % 16);
     }
     out.write_all(&digits)
 }
