@@ -43,7 +43,7 @@ pub fn with_bit(x: Word, k: u8, b: bool) -> Word
 }
 
 // The first of the compared bits that differs, or none of them.
-#[derive(Drop)]
+#[derive(Clone, Copy)]
 pub enum Difference {
     At(u8),
     Nowhere,

@@ -12,14 +12,14 @@ pub struct Settlement {
 }
 
 // What OPEN and the events answer: 0 or the number of the refusal, and the settlement.
-#[derive(Drop)]
+#[derive(Clone, Copy)]
 pub struct Outcome {
     pub number: u8,
     pub settlement: Settlement,
 }
 
 // What LOOK answers: 0 or the number of the refusal; whether the station has decided, its claim, and its votes.
-#[derive(Drop)]
+#[derive(Clone, Copy)]
 pub struct Standing {
     pub number: u8,
     pub decided: bool,
@@ -29,7 +29,7 @@ pub struct Standing {
 
 // What a look at a ballot answers: 0 or the number of the refusal; the masks of the stations that cast 0 and 1, how many are in each, whether there
 // is an answer, and the answer.
-#[derive(Drop)]
+#[derive(Clone, Copy)]
 pub struct Tally {
     pub number: u8,
     pub cast0: u32,
