@@ -77,7 +77,11 @@ def main():
     with open(LIST, encoding="utf-8") as f:
         new = dict(l.rstrip("\n").split("\t") for l in f)
 
+    # port.py spelled a name that is a type in the library's way of a word
+    half = re.compile(r"(?<![\w'.])(" + "|".join(n for n in new if "-" not in n) + r")(?![\w'-])")
+
     def turn(text, keep=frozenset()):
+        text = half.sub(lambda m: new[m.group()], text)
         return TOKEN.sub(lambda m: m.group() if m.group() in keep or QUALIFIED.search(text[: m.start()]) else new.get(m.group(), m.group()), text)
 
     for p in sources("crates/**/*.antt") + sources("crates/*/src/**/*.rt") + sources("docs/**/*.md") + ["README.md", "theorems.txt"]:
