@@ -5,9 +5,14 @@ use mathlib.Core.Logic.{⊎_elim}
 use mathlib.Core.Bool.{Bool, true, false, ◌||◌, cond, true≢false}
 use native.Mathlib.Nat.{le_refl, le_step, not-suc-le-zero, eq-or-lt_of_le, le_of_suc-le-suc, lt_irrefl}
 use native.Mathlib.Decide.{le_ind}
+use native.Mathlib.Numerals.{add-one}
 use native.Mathlib.Omega.{arith}
+use mathlib.Core.List.{List}
+use lib.ListN.{length, get_or, take}
+use Rattle.std.specs.List.{list_any}
+use Rattle.std.proofs.lemmas.List.Folds.{list_any_more}
 use Rattle.basics.specs.Below.{any_below, count_below, SomeBelow}
-use Rattle.basics.proofs.Bools.{by_bool, no_clash, or_false}
+use Rattle.basics.proofs.Bools.{by_bool, no_clash, or_false, or_swap}
 
 -- a number found below n
 pub any_found : (n : ℕ) (f : ℕ → Bool) → any_below n f ≡ true → (i : ℕ) × (i < n) × (f i ≡ true)
@@ -34,6 +39,20 @@ any_true n f i l e = by_bool (any_below n f) (λ p. p) (λ p. no_clash (f i) e (
 
 pub none_below : (n : ℕ) (f : ℕ → Bool) → ((i : ℕ) → i < n → f i ≡ false) → any_below n f ≡ false
 none_below n f g = by_bool (any_below n f) (λ e. let t = any_found n f e in no_clash (f t.0) t.2 (g t.0 t.1)) (λ e. e)
+
+-- one number more, looked at last
+pub any_next : (n : ℕ) (f : ℕ → Bool) → any_below (n + 1) f ≡ (any_below n f || f n)
+unfolding any_below
+any_next n f = rw add-one (or_swap (f n) (any_below n f))
+
+-- over a list: std's test of some element, which `any` of an iterator answers
+pub any_of_list : {X : Type 0} (p : X → Bool) (l : List X) (d : X) (n : ℕ) → n ≤ length l → any_below n (λ i. p (get_or l i d)) ≡ list_any p (take n l)
+unfolding any_below
+any_of_list p l d zero h = refl
+any_of_list p l d (suc n) h =
+    or_swap (p (get_or l n d)) (any_below n (λ i. p (get_or l i d)))
+    ∙ ap (λ (b : Bool). b || p (get_or l n d)) (any_of_list p l d n (omega arith))
+    ∙ sym (rw add-one at (list_any_more p l n d h))
 
 pub some_below : SomeBelow
 some_below n f = (any_found n f, λ t. any_true n f t.0 t.1 t.2)

@@ -1,6 +1,8 @@
--- Case splits that keep their equation, tests joined by "and", "or" and "not", and two Bools compared. Assumes nothing.
+-- Case splits that keep their equation, and two Bools compared; the library's lemmas on "and", "or" and "not" under the names used here. Assumes nothing.
 use mathlib.Core.Path.{◌≡◌, refl, sym, ◌∙◌}
-use mathlib.Core.Bool.{Bool, true, false, cond, not, ◌&&◌, ◌||◌, beq, true≢false}
+use mathlib.Core.Bool.{Bool, true, false, ◌||◌, cond, beq, true≢false}
+pub use mathlib.Core.Bool.{or-false as or_none}
+pub use Rattle.std.proofs.lemmas.Bool.{not-false as not_false→true, not-true as not_true→false, and_parts as and_true, or_parts as or_false, or_right as or_later}
 
 unfoldable pub by_bool {ℓ} : {C : Type ℓ} (b : Bool) → (b ≡ true → C) → (b ≡ false → C) → C
 by_bool true f g = f refl
@@ -13,29 +15,11 @@ cond_ind C false x y f g = g refl
 pub no_clash : {C : Type 0} (b : Bool) → b ≡ true → b ≡ false → C
 no_clash b p q = absurd (true≢false (sym p ∙ q))
 
-pub not_false→true : (b : Bool) → not b ≡ false → b ≡ true
-not_false→true true e = refl
-not_false→true false e = sym e
-
-pub not_true→false : (b : Bool) → not b ≡ true → b ≡ false
-not_true→false true e = sym e
-not_true→false false e = refl
-
-pub and_true : (a b : Bool) → (a && b) ≡ true → (a ≡ true) × (b ≡ true)
-and_true true b e = (refl, e)
-and_true false b e = absurd (true≢false (sym e))
-
-pub or_none : (b : Bool) → (b || false) ≡ b
-or_none true = refl
-or_none false = refl
-
-pub or_false : (a b : Bool) → (a || b) ≡ false → (a ≡ false) × (b ≡ false)
-or_false true b e = absurd (true≢false e)
-or_false false b e = (refl, e)
-
-pub or_later : (a b : Bool) → b ≡ true → (a || b) ≡ true
-or_later true b e = refl
-or_later false b e = e
+pub or_swap : (a b : Bool) → (a || b) ≡ (b || a)
+or_swap true true = refl
+or_swap true false = refl
+or_swap false true = refl
+or_swap false false = refl
 
 -- each is true where the other is
 pub both_ways : (a b : Bool) → (a ≡ true → b ≡ true) → (b ≡ true → a ≡ true) → a ≡ b

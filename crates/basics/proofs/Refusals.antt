@@ -1,10 +1,13 @@
 -- Chains of refusals taken apart: an accepted call met none of the tests. Assumes nothing.
-use Prim.Native.Nat.{ℕ}
+use Prim.Native.Nat.{ℕ, ◌<◌}
 use mathlib.Core.Path.{◌≡◌, refl, ◌∙◌, ap}
 use mathlib.Core.Bool.{Bool, true, false}
 use mathlib.Core.List.{List, [], ◌∷◌, ◌++◌}
 use lib.Dec.{eqb}
 use borrow.Author.Tests.{eqb-false}
+use Rattle.std.proofs.Common.{rules}
+use Rattle.basics.specs.declared.refusal.Refusal.{Refusal}
+use Rattle.basics.specs.Refusals.{number_of}
 use Rattle.basics.specs.Tests.{refuse, Test, when, first_met, NoneMet, TestsInOrder}
 
 pub refused_not : (t : Bool) (m rest : ℕ) → eqb m 0 ≡ false → refuse t m rest ≡ 0 → (t ≡ false) × (rest ≡ 0)
@@ -37,3 +40,7 @@ none_of (when t k ∷ ts) h = ap (λ (b : Bool). refuse b k (first_met ts)) h.0 
 
 pub tests_in_order : TestsInOrder
 tests_in_order = record { first = first_of; accepted = none_of }
+
+-- no refusal has the number of an accepted call
+pub some_number : (e : Refusal) → 0 < number_of e
+some_number e = search rules

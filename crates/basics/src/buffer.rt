@@ -15,14 +15,14 @@ pub fn set_byte(part: &mut [u8], i: usize, b: u8)
 pub fn byte_at(part: &[u8], i: usize) -> u8
     ensures { result ≡ byte part.now i }
 {
-    if i < part.len() { part[i] } else { 0 }
+    part.get(i).copied().unwrap_or(0)
 }
 
 // The number in four bytes, high byte first.
 pub fn four_of(x: u8, y: u8, z: u8, w: u8) -> u32
     ensures { result ≡ four_of x y z w }
 {
-    256 * (256 * (256 * (x as u32) + (y as u32)) + (z as u32)) + (w as u32)
+    u32::from_be_bytes([x, y, z, w])
 }
 
 // The number in the four bytes from the place i on.
@@ -42,8 +42,9 @@ pub fn set_four(part: &mut [u8], i: u8, v: u32)
     ensures { part.new ≡ four_set part.old i v }
 {
     let at = i as usize;
-    set_byte(part, at, (v / 16777216 % 256) as u8);
-    set_byte(part, at + 1, (v / 65536 % 256) as u8);
-    set_byte(part, at + 2, (v / 256 % 256) as u8);
-    set_byte(part, at + 3, (v % 256) as u8);
+    let [x, y, z, w] = v.to_be_bytes();
+    set_byte(part, at, x);
+    set_byte(part, at + 1, y);
+    set_byte(part, at + 2, z);
+    set_byte(part, at + 3, w);
 }

@@ -1,47 +1,38 @@
 // Count, then write: bytes one after the other into a lent buffer. Past its end nothing is written, and the places go on:
 // on an empty buffer a writer answers how much room it needs. After the last place there is none, and the places stay there.
-ghost use Rattle.std.specs.Prelude.{◌+◌, ◌≡◌, [], ◌∷◌, length};
+ghost use Rattle.std.specs.Prelude.{[], ◌∷◌, length};
 ghost use Rattle.basics.specs.Bytes.{four_bytes};
-ghost use Rattle.basics.specs.Written.{place_up_to, Wrote};
+ghost use Rattle.basics.specs.Writers.{Writes};
 
 use crate::buffer::set_byte;
 
-// The last place that a number names.
-const LAST: usize = 0xffff_ffff_ffff_ffff;
-
-fn next_place(at: usize) -> usize
-    ensures { result ≡ place_up_to (at + 1) }
-{
-    if at < LAST { at + 1 } else { at }
+// A lent buffer, and the place that is written next.
+#[derive(Drop)]
+pub struct Writer<'a> {
+    pub out: &'a mut [u8],
+    pub at: usize,
 }
 
-// b at a place; the next place.
-pub fn put_byte(out: &mut [u8], at: usize, b: u8) -> usize
-    ensures { Wrote 1 out.old at (b ∷ []) out.new result }
-{
-    set_byte(out, at, b);
-    next_place(at)
-}
-
-// The four bytes of a number from a place on, high byte first; the place after them.
-pub fn put_four(out: &mut [u8], at: usize, v: u32) -> usize
-    ensures { Wrote 4 out.old at (four_bytes v) out.new result }
-{
-    let a = put_byte(out, at, (v / 16777216 % 256) as u8);
-    let b = put_byte(out, a, (v / 65536 % 256) as u8);
-    let c = put_byte(out, b, (v / 256 % 256) as u8);
-    put_byte(out, c, (v % 256) as u8)
-}
-
-// The bytes of a word from a place on; the place after them.
-pub fn put_word(out: &mut [u8], at: usize, word: &[u8]) -> usize
-    ensures { Wrote (length word.now) out.old at word.now out.new result }
-{
-    let mut next = at;
-    let mut i: usize = 0;
-    while i < word.len() {
-        next = put_byte(out, next, word[i]);
-        i += 1;
+impl<'a> Writer<'a> {
+    pub fn byte(&mut self, b: u8)
+        ensures { Writes 1 (b ∷ []) self.old self.new }
+    {
+        set_byte(self.out, self.at, b);
+        self.at = self.at.saturating_add(1);
     }
-    next
+
+    // The four bytes of a number, high byte first.
+    pub fn four(&mut self, v: u32)
+        ensures { Writes 4 (four_bytes v) self.old self.new }
+    {
+        self.word(&v.to_be_bytes());
+    }
+
+    pub fn word(&mut self, word: &[u8])
+        ensures { Writes (length word.now) word.now self.old self.new }
+    {
+        for b in word {
+            self.byte(*b);
+        }
+    }
 }

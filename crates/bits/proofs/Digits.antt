@@ -2,19 +2,21 @@
 -- n / 2 (`bit_step`, `length_above`). So a number is determined by its bits, and its length is the least k above 0 with n < 2 ^ k.
 -- Assumes nothing.
 use Prim.Native.Nat.{ℕ, zero, suc, ◌+◌, ◌-◌, ◌*◌, ◌/◌, ◌%◌, ◌^◌, ◌≤◌, ◌<◌, max, zero-le, suc-le-suc}
-use mathlib.Core.Path.{◌≡◌, refl, sym, ap, ap₂, ◌∙◌, subst}
+use mathlib.Core.Path.{◌≡◌, refl, sym, ap, ◌∙◌, subst}
 use mathlib.Core.Logic.{◌≢◌}
 use mathlib.Core.Bool.{Bool, true, false, false≢true}
 use mathlib.Core.List.{List, [], ◌∷◌}
-use native.Mathlib.Nat.{le_antisymm, le_of_eq, le-max_left, le-max_right, max-le, le-add_right, le-add_left, not-suc-le-zero, le_of_suc-le-suc}
+use native.Mathlib.Nat.{le_antisymm, le_of_eq, le-max_left, le-max_right, max-le, not-suc-le-zero, le_of_suc-le-suc}
 use native.Mathlib.Nat.{lt_of_lt_of_le, lt_of_not-le, zero-lt-suc, div-one, div-eq_of_lt, div-add-mod', div-div-eq-div-mul, div-lt_iff_lt-mul, pow-suc, pow-succ'}
 use native.Mathlib.Omega.{arith}
-use lib.Arith.{le-zero, half_le, bin_ind}
+use lib.Arith.{half_le, bin_ind}
 use lib.Count.{count_leading_zeros, leading_length}
 use lib.Dec.{eqb}
 use lib.ListN.{length, get_or}
 use lib.Pow.{pow_mono, pow_pos}
 use borrow.Author.Tests.{eqb-true, eqb-false}
+use Rattle.std.specs.Int.{bit_at}
+use Rattle.std.proofs.lemmas.Nat.Bits.{same_from_bits}
 use Rattle.bits.specs.Digits.{value, lowest, digits_in, binary_digits, bit_length, bit, LengthRule}
 
 -- ---- the step
@@ -86,16 +88,12 @@ low_value n = sym (lowest_value n) ∙ ap value (sym (bit_low n))
 pub halves : (n : ℕ) → n ≡ n / 2 * 2 + value (bit 0 n)
 halves n = sym (div-add-mod' n 2) ∙ ap (λ (x : ℕ). n / 2 * 2 + x) (low_value n)
 
-ext_within : (f a b : ℕ) → a ≤ f → b ≤ f → ((k : ℕ) → bit k a ≡ bit k b) → a ≡ b
-ext_within zero a b h l same = le-zero h ∙ sym (le-zero l)
-ext_within (suc f) a b h l same =
-    halves a
-    ∙ ap₂ (λ (x : ℕ) (y : Bool). x * 2 + value y)
-    (ext_within f (a / 2) (b / 2) (half_le h) (half_le l) (λ k. sym (bit_step k a) ∙ same (suc k) ∙ bit_step k b)) (same 0)
-    ∙ sym (halves b)
+-- the library's bit, a number
+pub bit_value : (k n : ℕ) → value (bit k n) ≡ bit_at n k
+bit_value k n = ap value (bit_div k n) ∙ lowest_value (n / 2 ^ k)
 
 pub bit_ext : (a b : ℕ) → ((k : ℕ) → bit k a ≡ bit k b) → a ≡ b
-bit_ext a b same = ext_within (a + b) a b (le-add_right a b) (le-add_left b a) same
+bit_ext a b same = same_from_bits a b (λ k. sym (bit_value k a) ∙ ap value (same k) ∙ bit_value k b)
 
 pub bit_above : (k n : ℕ) → n < 2 ^ k → (i : ℕ) → k ≤ i → bit i n ≡ false
 bit_above k n h i l = bit_div i n ∙ ap (λ (x : ℕ). eqb (x % 2) 1) (div-eq_of_lt (lt_of_lt_of_le h (pow_mono l)))

@@ -5,16 +5,17 @@ use Prim.Native.Nat.{ℕ, zero, suc, ◌+◌, ◌*◌, ◌/◌, ◌%◌, ◌^◌
 use mathlib.Core.Path.{◌≡◌, refl, sym, ap, ◌∙◌, subst}
 use mathlib.Core.Logic.{⊎_elim}
 use mathlib.Core.Bool.{Bool, true, false, beq, and-eq-true_iff}
-use native.Mathlib.Nat.{le_refl, le_step, le-suc, le_of_suc-le-suc, not-suc-le-zero, eq-or-lt_of_le, lt_of_lt_of_le, ne_of_gt, zero-lt-suc, mod-lt, mul-one, mul_assoc, pow-suc}
+use native.Mathlib.Nat.{le_refl, le_step, le-suc, le_of_suc-le-suc, eq-or-lt_of_le, lt_of_lt_of_le, ne_of_gt, mod-lt, mul-one, mul_assoc, pow-suc, div-add-mod'}
 use native.Mathlib.Omega.{arith}
-use lib.Arith.{le-zero, digits_div, digits_mod, mod-mul}
+use lib.Arith.{le-zero, digits_div, digits_mod}
 use lib.Dec.{eqb, ltb}
 use lib.Pow.{pow_pos}
 use borrow.Author.Tests.{eqb-true, eq-eqb, lt-ltb, le-ltb, ltb-true, ltb-false}
 use Rattle.basics.proofs.Bools.{both_ways, beq_same, beq_true}
+use Rattle.std.proofs.lemmas.Nat.Bits.{bit_at_cat_low}
 use Rattle.bits.specs.Digits.{value, bit}
 use Rattle.bits.specs.Words.{with_bit, low_agree, word_with_bit, BitLaws, WordLaws}
-use Rattle.bits.proofs.Digits.{bit_low, bit_step, bit_ext, bit_above, lt_of_bits, halves, low_value}
+use Rattle.bits.proofs.Digits.{bit_div, bit_low, bit_step, bit_ext, bit_above, lt_of_bits, halves}
 
 -- ---- a number made of a half and a lowest digit
 
@@ -113,17 +114,10 @@ bits_agree (suc k) a b same =
     (rw (same (suc k) (le_refl (suc k))) (beq_same (bit (suc k) b)), bits_agree k a b (λ i l. same i (le_step l)))
 
 -- the k low bits are those of the remainder by 2 ^ k
-mod_made : (k n : ℕ) → n % 2 ^ suc k ≡ n / 2 % 2 ^ k * 2 + value (bit 0 n)
-mod_made k n =
-    ap (λ (x : ℕ). n % x) (pow-suc 2 k) ∙ mod-mul n (pow_pos k) (zero-lt-suc 1)
-    ∙ ap (λ (x : ℕ). n / 2 % 2 ^ k * 2 + x) (low_value n)
-
 pub bit_mod : (k i n : ℕ) → i < k → bit i (n % 2 ^ k) ≡ bit i n
-bit_mod zero i n l = absurd (not-suc-le-zero l)
-bit_mod (suc k) zero n l = ap (bit 0) (mod_made k n) ∙ low_made (n / 2 % 2 ^ k) (bit 0 n)
-bit_mod (suc k) (suc i) n l =
-    ap (bit (suc i)) (mod_made k n) ∙ high_made i (n / 2 % 2 ^ k) (bit 0 n) ∙ bit_mod k i (n / 2) (le_of_suc-le-suc l)
-    ∙ sym (bit_step i n)
+bit_mod k i n l =
+    let same = bit_at_cat_low (n / 2 ^ k) k (n % 2 ^ k) i l in
+    bit_div i (n % 2 ^ k) ∙ ap (λ (x : ℕ). eqb x 1) (sym (rw (div-add-mod' n (2 ^ k)) at same)) ∙ sym (bit_div i n)
 
 same_mod : (k a b : ℕ) → ((i : ℕ) → i < k → bit i a ≡ bit i b) → a % 2 ^ k ≡ b % 2 ^ k
 same_mod k a b same = bit_ext (a % 2 ^ k) (b % 2 ^ k) (λ i. go i (ltb i k) refl)

@@ -1,12 +1,9 @@
 -- The first of the low k + 1 bits at which two numbers differ, in the order k, 0, 1, .., k - 1 (document 02, A.4). Bit k is the newest: of a
 -- seeking station's word it was learnt last. Assumes nothing.
-use Rattle.std.specs.Prelude.{ℕ, zero, suc, ◌^◌, ◌≤◌, ◌<◌, ◌≡◌, ◌↔◌, ◌⊎◌, Bool, true, false, cond, List, [], ◌∷◌}
+use Rattle.std.specs.Prelude.{ℕ, zero, suc, ◌^◌, ◌≤◌, ◌<◌, ◌≡◌, ◌↔◌, ◌⊎◌, true, cond, List, [], ◌∷◌, Option, Some, None}
 use Rattle.std.specs.Bool.{beq}
-use Rattle.std.proofs.Math.Option.{Option, none, some}
 use Rattle.std.specs.Int.Bits.{bit_xor}
 use Rattle.std.specs.Int.Count.{count_trailing_zeros}
-use Rattle.bits.specs.declared.word.Difference.{Difference}
-use Rattle.bits.specs.declared.word.Difference.TheVariants.{At, Nowhere}
 use Rattle.bits.specs.Digits.{bit}
 use Rattle.bits.specs.Words.{low_agree}
 
@@ -19,24 +16,14 @@ rising from (suc count) = from ∷ rising (suc from) count
 unfoldable pub newest_first : ℕ → List ℕ
 newest_first k = k ∷ rising 0 k
 
--- the first place of a list at which bits of a and b differ, or none
+-- the first place of a list at which bits of a and b differ, or None
 unfoldable pub first_among : List ℕ → ℕ → ℕ → Option ℕ
-first_among [] a b = none
-first_among (i ∷ places) a b = cond (beq (bit i a) (bit i b)) (first_among places a b) (some i)
+first_among [] a b = None
+first_among (i ∷ places) a b = cond (beq (bit i a) (bit i b)) (first_among places a b) (Some i)
 
 -- "The comparison answers the first bit in this order that differs, or none"
 unfoldable pub first_difference : ℕ → ℕ → ℕ → Option ℕ
 first_difference k a b = first_among (newest_first k) a b
-
--- what the code's answer says (document 01: "If an answer is an enum, a definition sets out this paper's number and values")
-abbrev pub place_said : Difference → Option ℕ
-place_said (At i) = some i
-place_said Nowhere = none
-
--- "none": all that was compared agrees
-abbrev pub none_differs : Option ℕ → Bool
-none_differs none = true
-none_differs (some p) = false
 
 -- ---- what it means
 
@@ -56,13 +43,13 @@ pub record First (k a b p : ℕ) : Type 0 where
 
 pub record DifferenceLaws : Type 0 where
   -- "answers the first bit in this order that differs"
-  pub first_exactly : (k a b p : ℕ) → (first_difference k a b ≡ some p) ↔ First k a b p
+  pub first_exactly : (k a b p : ℕ) → (first_difference k a b ≡ Some p) ↔ First k a b p
   -- "or none exactly when all k+1 agree"
-  pub none_exactly : (k a b : ℕ) → (first_difference k a b ≡ none) ↔ (low_agree k a b ≡ true)
+  pub none_exactly : (k a b : ℕ) → (first_difference k a b ≡ None) ↔ (low_agree k a b ≡ true)
   -- Two numbers of w bits agree at every place from w on. So where k is w or more, the whole numbers are compared, from bit 0 up.
   pub past_first : (w k a b p : ℕ) → w ≤ k → a < 2 ^ w → b < 2 ^ w
-      → (first_difference k a b ≡ some p) ↔ ((Same p a b → ⊥) × ((i : ℕ) → i < p → Same i a b))
-  pub past_none : (w k a b : ℕ) → w ≤ k → a < 2 ^ w → b < 2 ^ w → (first_difference k a b ≡ none) ↔ (a ≡ b)
+      → (first_difference k a b ≡ Some p) ↔ ((Same p a b → ⊥) × ((i : ℕ) → i < p → Same i a b))
+  pub past_none : (w k a b : ℕ) → w ≤ k → a < 2 ^ w → b < 2 ^ w → (first_difference k a b ≡ None) ↔ (a ≡ b)
 
 -- ---- how the code finds it
 
@@ -71,4 +58,4 @@ pub record DifferenceLaws : Type 0 where
 abbrev pub DifferenceRule : Type 0
 DifferenceRule = (w k a b : ℕ) → a < 2 ^ w → b < 2 ^ w
     → first_difference k a b
-    ≡ cond (bit k (bit_xor a b)) (some k) (cond (low_agree k a b) none (some (count_trailing_zeros w (bit_xor a b))))
+    ≡ cond (bit k (bit_xor a b)) (Some k) (cond (low_agree k a b) None (Some (count_trailing_zeros w (bit_xor a b))))

@@ -1,14 +1,11 @@
 -- What the documents write out: claims with their lengths and numbers of stations with their R (document 01, "The settlement"), and the bits
 -- of 5 (paper 000, section 3). Made up: comparisons that tell the order of document 02, A.4, from others, and the edges of a claim's 32 bits and
 -- of a mask's 32 stations. Assumes nothing.
-use Rattle.std.specs.Prelude.{◌≡◌, ℕ, ◌-◌, ◌^◌, Bool, true, false, ◌&&◌, List, [], ◌∷◌, eqb}
+use Rattle.std.specs.Prelude.{◌≡◌, ℕ, ◌-◌, ◌^◌, Bool, true, false, ◌&&◌, List, [], ◌∷◌, eqb, Option, Some, None}
 use Rattle.std.specs.Bool.{beq}
-use Rattle.std.proofs.Math.Option.{Option, none, some}
-use Rattle.bits.specs.declared.word.Difference.{Difference}
-use Rattle.bits.specs.declared.word.Difference.TheVariants.{At, Nowhere}
 use Rattle.bits.specs.Digits.{bit_length, bit}
 use Rattle.bits.specs.Words.{with_bit, low_agree, claim_bits, word_with_bit, member, insert, size}
-use Rattle.bits.specs.Difference.{first_difference, place_said}
+use Rattle.bits.specs.Difference.{first_difference}
 use Rattle.bits.specs.Log.{ceil_log2}
 
 pub data Example : Type 0 where
@@ -16,10 +13,9 @@ pub data Example : Type 0 where
   has_log : ℕ → ℕ → Example
   has_bit : ℕ → ℕ → Bool → Example
   writing : ℕ → Bool → ℕ → ℕ → Example
-  -- the low k + 1 bits of two numbers agree; the first of them that differs, in A.4's order; what an answer of the code says
+  -- the low k + 1 bits of two numbers agree, or the first of them that differs, in A.4's order
   agreeing : ℕ → ℕ → ℕ → Bool → Example
   differing : ℕ → ℕ → ℕ → Option ℕ → Example
-  saying : Difference → Option ℕ → Example
   -- a claim with one bit written; a station in a mask; a mask with a station put in; how many are in one
   in_claim : ℕ → Bool → ℕ → ℕ → Example
   has_member : ℕ → ℕ → Bool → Example
@@ -28,10 +24,10 @@ pub data Example : Type 0 where
 
 -- two answers are one
 abbrev pub same_place : Option ℕ → Option ℕ → Bool
-same_place none none = true
-same_place none (some j) = false
-same_place (some i) none = false
-same_place (some i) (some j) = eqb i j
+same_place None None = true
+same_place None (Some j) = false
+same_place (Some i) None = false
+same_place (Some i) (Some j) = eqb i j
 
 unfoldable pub example_right : Example → Bool
 example_right (has_length n l) = eqb (bit_length n) l
@@ -40,7 +36,6 @@ example_right (has_bit k n b) = beq (bit k n) b
 example_right (writing k b n m) = eqb (with_bit k b n) m
 example_right (agreeing k n m b) = beq (low_agree k n m) b
 example_right (differing k n m p) = same_place (first_difference k n m) p
-example_right (saying d p) = same_place (place_said d) p
 example_right (in_claim k b n m) = eqb (word_with_bit claim_bits k b n) m
 example_right (has_member s mask b) = beq (member s mask) b
 example_right (inserting s mask m) = eqb (insert s mask) m
@@ -60,11 +55,11 @@ written =
     ∷ writing 3 true 5 13 ∷ writing 0 false 5 4 ∷ writing 2 true 5 5
     ∷ agreeing 0 3 5 true ∷ agreeing 1 3 5 false ∷ agreeing 2 1 9 true ∷ agreeing 3 1 9 false ∷ agreeing 30 0 2147483648 true ∷ agreeing 31 0 2147483648 false
     ∷ agreeing 32 0 2147483648 false ∷ agreeing 255 5 5 true
-    ∷ differing 0 2 3 (some 0) ∷ differing 0 2 0 none ∷ differing 1 3 0 (some 1) ∷ differing 1 1 0 (some 0) ∷ differing 2 5 0 (some 2) ∷ differing 2 4 0 (some 2) ∷ differing 2 8 0 none
-    ∷ differing 2 13 5 none ∷ differing 3 7 0 (some 0) ∷ differing 3 6 0 (some 1) ∷ differing 3 10 9 (some 0) ∷ differing 4 17 0 (some 4) ∷ differing 16 65537 0 (some 16)
-    ∷ differing 30 2147483648 0 none ∷ differing 31 2147483649 0 (some 31) ∷ differing 31 2147483648 0 (some 31) ∷ differing 31 1073741824 0 (some 30) ∷ differing 31 4294967295 4294967295 none
-    ∷ differing 32 2147483649 0 (some 0) ∷ differing 32 0 2147483648 (some 31) ∷ differing 32 4294967297 0 (some 32) ∷ differing 255 0 2147483648 (some 31) ∷ differing 255 4294967295 4294967295 none
-    ∷ saying (At 0) (some 0) ∷ saying (At 31) (some 31) ∷ saying Nowhere none
+    ∷ differing 0 2 3 (Some 0) ∷ differing 0 2 0 None ∷ differing 1 3 0 (Some 1) ∷ differing 1 1 0 (Some 0) ∷ differing 2 5 0 (Some 2) ∷ differing 2 4 0 (Some 2) ∷ differing 2 8 0 None
+    ∷ differing 2 13 5 None ∷ differing 3 7 0 (Some 0) ∷ differing 3 6 0 (Some 1) ∷ differing 3 10 9 (Some 0) ∷ differing 4 17 0 (Some 4) ∷ differing 16 65537 0 (Some 16)
+    ∷ differing 30 2147483648 0 None ∷ differing 31 2147483649 0 (Some 31) ∷ differing 31 2147483648 0 (Some 31) ∷ differing 31 1073741824 0 (Some 30) ∷ differing 31 4294967295 4294967295 None
+    ∷ differing 32 2147483649 0 (Some 0) ∷ differing 32 0 2147483648 (Some 31) ∷ differing 32 4294967297 0 (Some 32) ∷ differing 255 0 2147483648 (Some 31) ∷ differing 255 4294967295 4294967295 None
+    ∷ differing 0 1 0 (Some 0) ∷ differing 31 0 2147483648 (Some 31) ∷ differing 31 0 0 None
     ∷ in_claim 31 true 0 2147483648 ∷ in_claim 32 true 0 0 ∷ in_claim 0 false 4294967295 4294967294
     ∷ has_member 0 1 true ∷ has_member 31 2147483648 true ∷ has_member 30 2147483648 false ∷ has_member 32 4294967295 false
     ∷ inserting 0 2 3 ∷ inserting 31 0 2147483648 ∷ inserting 31 2147483648 2147483648 ∷ inserting 32 5 5

@@ -7,6 +7,7 @@ use crate::word::{Word, bit_at, with_bit};
 pub const MASK_BITS: u8 = 32;
 
 // Whether station s is in the mask. A station past the mask's room is not.
+#[tactic(auto, unfolding(crate::specs::Words::member))]
 pub fn mask_has(mask: u32, s: u8) -> bool
     ensures { result ≡ member s mask }
 {
@@ -14,6 +15,7 @@ pub fn mask_has(mask: u32, s: u8) -> bool
 }
 
 // The mask with station s in it. A station past the mask's room changes nothing.
+#[tactic(auto, unfolding(crate::specs::Words::insert), using(crate::proofs::Words::word_inside, crate::proofs::Words::word_outside))]
 pub fn mask_with(mask: u32, s: u8) -> u32
     ensures { result ≡ insert s mask }
 {
@@ -27,5 +29,5 @@ pub fn mask_with(mask: u32, s: u8) -> u32
 pub fn mask_count(mask: u32) -> u8
     ensures { result ≡ size mask }
 {
-    u32::count_ones(mask) as u8
+    mask.count_ones() as u8
 }

@@ -1,7 +1,7 @@
 // A claim as a word: its length, one bit of it, one bit changed, and two words compared.
 ghost use Rattle.std.specs.Prelude.{◌≡◌};
 ghost use Rattle.bits.specs.Digits.{bit, bit_length};
-ghost use Rattle.bits.specs.Difference.{first_difference, place_said, none_differs};
+ghost use Rattle.bits.specs.Difference.{first_difference};
 ghost use Rattle.bits.specs.Words.{claim_bits, word_with_bit};
 
 // The word that holds a claim. Its width is said here and, for the proofs, by `claim_bits` of specs/Words.antt.
@@ -13,21 +13,14 @@ pub const WORD_BITS: u8 = 32;
 pub fn bit_length(x: Word) -> u8
     ensures { result ≡ bit_length x }
 {
-    let digits = WORD_BITS - u32::leading_zeros(x) as u8;
-    if digits == 0 {
-        return 1;
-    }
-    digits
+    (WORD_BITS - x.leading_zeros() as u8).max(1)
 }
 
 // Bit k of x. A word has no bit at or past its width: there it is 0.
 pub fn bit_at(x: Word, k: u8) -> bool
     ensures { result ≡ bit k x }
 {
-    if WORD_BITS <= k {
-        return false;
-    }
-    (x >> k) % 2 == 1
+    k < WORD_BITS && (x >> k) % 2 == 1
 }
 
 // x with bit k made b. At or past the width nothing changes.
@@ -42,44 +35,21 @@ pub fn with_bit(x: Word, k: u8, b: bool) -> Word
     x - (old << k) + (new << k)
 }
 
-// The first of the compared bits that differs, or none of them.
-#[derive(Clone, Copy)]
-pub enum Difference {
-    At(u8),
-    Nowhere,
-}
-
 // The first of the low k + 1 bits at which a and b differ: bit k comes first, then those below it, from bit 0 up. Where the word has no
 // bit k, all its bits are compared, from bit 0 up.
 // A shift moves bit k to the top and the bits above it out. So "bit k differs" is the shifted word's top bit, and the machine has one test for
 // that and for "nothing differs".
-pub fn first_difference(a: Word, b: Word, k: u8) -> Difference
-    ensures { place_said result ≡ first_difference k a b }
+pub fn first_difference(a: Word, b: Word, k: u8) -> Option<u8>
+    ensures { result ≡ first_difference k a b }
 {
     let differing = a ^ b;
-    let lowest = u32::trailing_zeros(differing) as u8;
+    let lowest = differing.trailing_zeros() as u8;
     if WORD_BITS <= k {
-        if differing == 0 {
-            return Difference::Nowhere;
-        }
-        return Difference::At(lowest);
+        return (differing != 0).then_some(lowest);
     }
     let compared = differing << (WORD_BITS - 1 - k);
     if bit_at(compared, WORD_BITS - 1) {
-        return Difference::At(k);
+        return Some(k);
     }
-    if compared == 0 {
-        return Difference::Nowhere;
-    }
-    Difference::At(lowest)
-}
-
-// Whether none of the compared bits differs.
-pub fn none_differs(found: Difference) -> bool
-    ensures { result ≡ none_differs (place_said found) }
-{
-    match found {
-        Difference::At(_) => false,
-        Difference::Nowhere => true,
-    }
+    (compared != 0).then_some(lowest)
 }

@@ -1,8 +1,9 @@
 -- The stages (document 01, "The settlement": "idle (no claim put in), waiting, voting, awaiting, seeking, decided. Rule 2 has voting and awaiting for the
 -- bit ballot and for the finish ballot"). Assumes nothing.
-use Rattle.std.specs.Prelude.{ℕ, ◌≡◌, ◌↔◌, Bool, true, not, ◌||◌, eqb}
+use Rattle.std.specs.Prelude.{ℕ, ◌≡◌, ◌<◌, ◌↔◌, Bool, true, not, ◌||◌, eqb, Result, MatchResult}
 use Rattle.entry.specs.declared.entry.Stage.{Stage}
 use Rattle.entry.specs.declared.entry.Stage.TheVariants.{Idle, Waiting, Voting, Awaiting, Seeking, FinishVoting, FinishAwaiting, Decided}
+use Rattle.entry.specs.declared.stage.NoStage.{NoStage}
 
 -- the stages in order: the one table of them
 abbrev pub rank : Stage → ℕ
@@ -14,6 +15,10 @@ rank Seeking = 4
 rank FinishVoting = 5
 rank FinishAwaiting = 6
 rank Decided = 7
+
+-- read back: the stage with the place x, or that no stage has it
+abbrev pub Placed : ℕ → Result Stage NoStage → Type 0
+Placed x r = MatchResult r (λ g. rank g ≡ x) (λ e. (e.0 ≡ x) × (7 < x))
 
 -- a station at the stage g is at the stage x
 abbrev pub at : Stage → Stage → Bool

@@ -10,8 +10,9 @@ pub const STATION_ENTRIES: u8 = 32;
 pub const BALLOT_ENTRIES: usize = 2 * WORD_BITS as usize;
 
 // Where a station stands. The two `Finish` stages are those of the finish ballot.
-#[derive(Clone, Copy)]
+#[derive(Clone, Copy, Debug, Default, PartialEq, Eq)]
 pub enum Stage {
+    #[default]
     Idle,
     Waiting,
     Voting,
@@ -25,7 +26,7 @@ pub enum Stage {
 // A station is a process; lost is crashed, and a claim is a proposed value.
 // `held` is the mask of the stations whose claims it holds; the claims themselves stay in their claimers' entries.
 // `cursor`, `round` and `word` are j, k and d of document 01; `decision` is the claim it decided.
-#[derive(Clone, Copy)]
+#[derive(Clone, Copy, Default)]
 pub struct Station {
     pub stage: Stage,
     pub cursor: u8,
@@ -38,7 +39,8 @@ pub struct Station {
 }
 
 // A ballot is a binary consensus instance: the masks of the stations that cast 0 and 1 in it, whether it is answered, and the answer.
-#[derive(Clone, Copy)]
+// No Option: a made-up record may have an answer that is no answer yet, and an image has a byte for each (`RoundTrip` in `image`).
+#[derive(Clone, Copy, Default)]
 pub struct Ballot {
     pub cast0: u32,
     pub cast1: u32,
@@ -49,25 +51,11 @@ pub struct Ballot {
 pub fn blank_station() -> Station
     ensures { result ≡ blank_station }
 {
-    Station {
-        stage: Stage::Idle,
-        lost: false,
-        held: 0,
-        claim: 0,
-        cursor: 0,
-        round: 0,
-        word: 0,
-        decision: 0,
-    }
+    Station::default()
 }
 
 pub fn blank_ballot() -> Ballot
     ensures { result ≡ blank_ballot }
 {
-    Ballot {
-        cast0: 0,
-        cast1: 0,
-        answered: false,
-        answer: false,
-    }
+    Ballot::default()
 }

@@ -7,6 +7,8 @@ use native.Mathlib.Nat.{mod-eq_of_lt}
 use native.Mathlib.Omega.{arith}
 use lib.Dec.{eqb}
 use borrow.Author.Tests.{eqb-true, eqb-false, eq-eqb, ne_eqb}
+use Rattle.std.specs.Bool.{Decides}
+use Rattle.std.proofs.lemmas.Bool.Decides.{Decides-and, Decides-eqb}
 use Rattle.basics.proofs.Bools.{by_bool, cond_ind, no_clash, and_true}
 use Rattle.bits.specs.Digits.{bit}
 use Rattle.bits.specs.Words.{claim_bits, low_agree, member, insert}
@@ -23,10 +25,9 @@ use Rattle.event.specs.Places.{next_cursor}
 use Rattle.event.specs.Step.{next_round, at_once, started, bit_taken, finish_taken, last_round, entry_after_seek, seeking_ends, sought, stepped, bit_voted, finish_voted, voted}
 use Rattle.event.specs.Change.{own_after, ballot_after}
 use Rattle.event.specs.Said.{Fits, WaitingSaid, PutsIn, VotingSaid, AwaitingSaid, SeekingSaid, FinishVotingSaid, FinishAwaitingSaid, StepSaid, AllSaid}
-use Rattle.event.proofs.Numbers.{Tells, tells_and, equal}
 
 -- a test that is false tells that its sentence does not hold
-fails : {P C : Type 0} (b : Bool) → Tells b P → b ≡ false → P → C
+fails : {P C : Type 0} (b : Bool) → Decides b P → b ≡ false → P → C
 fails b t q p = no_clash b (t.1 p) q
 
 -- ---- waiting
@@ -34,7 +35,7 @@ fails b t q p = no_clash b (t.1 p) q
 waiting_said : (v : View) (s : ℕ) → WaitingSaid v s (stepped v s Waiting)
 unfolding stepped started
 waiting_said v s =
-    let once = tells_and (by_station v.rule) (eqb v.count 1) (equal v.rule 1) (equal v.count 1) in
+    let once = Decides-and (by_station v.rule) (eqb v.count 1) (Decides-eqb v.rule 1) (Decides-eqb v.count 1) in
     cond_ind (WaitingSaid v s) (at_once v) _ _
     (λ p. record { cursor = refl; votes = λ n. absurd (n (once.0 p)); decides = λ q. (refl, refl) })
     (λ p. record { cursor = refl; votes = λ n. refl; decides = λ q. fails (at_once v) once p q })
@@ -108,7 +109,7 @@ spelled_number v j r = ap (λ (b : Bool). cond b j v.beside.claim) (eq-eqb v.rul
 spelled_claim : (v : View) (j : ℕ) → (v.rule ≡ 1 → ⊥) → spelled v.rule j v.beside.claim ≡ v.beside.claim
 spelled_claim v j r = ap (λ (b : Bool). cond b j v.beside.claim) (ne_eqb v.rule 1 r)
 
-fits : (v : View) (j : ℕ) → Tells (seeking_ends v j) (Fits v j)
+fits : (v : View) (j : ℕ) → Decides (seeking_ends v j) (Fits v j)
 fits v j = (there, back)
   where
     there : seeking_ends v j ≡ true → Fits v j

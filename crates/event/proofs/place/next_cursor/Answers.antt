@@ -1,22 +1,12 @@
--- `event::place::next_cursor`: up to n nothing is divided, and a remainder of a byte fits a byte. Assumes nothing.
-use Prim.Native.Nat.{◌+◌, ◌%◌, ◌<◌}
+-- `event::place::next_cursor`: up to n nothing is divided, and without stations there is none. Assumes nothing.
+use mathlib.Core.Logic.{⊎_elim}
 use native.Mathlib.Omega.{arith}
+use native.Mathlib.Nat.{mod-eq_of_lt, mod_self}
 use borrow.Author.Tests.{ne_eqb, eq-eqb}
-use native.Mathlib.Nat.{mod-lt, mod-eq_of_lt, mod_self}
 use Rattle.event.proofs.place.next_cursor.Goals as goal
 
-pub returns-then-next-n : goal.returns-then-next-n
-returns-then-next-n c = rw (ne_eqb c.args.n 0 (λ e. omega arith), mod-eq_of_lt c.if-next-n.true)
-
-pub returns-then-next-n-2 : goal.returns-then-next-n-2
-returns-then-next-n-2 c = rw (ne_eqb c.args.n 0 (λ e. omega arith), c.if-next-n-2.true, mod_self)
+pub returns-then-next-count : goal.returns-then-next-count
+returns-then-next-count c = rw (ne_eqb c.args.n 0 (λ e. omega arith), mod-eq_of_lt c.if-next-count.true)
 
 pub returns-then-n-eq0 : goal.returns-then-n-eq0
-returns-then-n-eq0 c = rw (eq-eqb _ 0 c.if-n-eq0.true)
-
-pub overflow_cast-result-3 : goal.overflow_cast-result-3
-overflow_cast-result-3 c = let less : (c.args.j + 1) % c.args.n < c.args.n = mod-lt _ (omega arith) in
-    record { fits = omega arith }
-
-pub returns : goal.returns
-returns c = rw (ne_eqb _ 0 c.if-n-eq0.false)
+returns-then-n-eq0 c = ⊎_elim (λ e. rw (ne_eqb c.args.n 0 (λ z. omega arith), e, mod_self)) (λ e. rw (eq-eqb c.args.n 0 e.1)) c.if-n-eq0.either

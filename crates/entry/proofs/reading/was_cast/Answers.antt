@@ -1,8 +1,0 @@
--- `entry::reading::was_cast`: the set of the bit is not empty. Assumes nothing.
-use Rattle.entry.proofs.reading.was_cast.Goals as goal
-
-pub returns-then-a : goal.returns-then-a
-returns-then-a c = rw c.if-a.true
-
-pub returns-else-a : goal.returns-else-a
-returns-else-a c = rw c.if-a.false
