@@ -4,8 +4,7 @@ ghost use Rattle.event.specs.Step.{next_round, entry_after_seek, seeking_ends, s
 
 use bits::logarithm::ceil_log2;
 use bits::mask::mask_has;
-use bits::word::{first_difference, none_differs};
-use entry::changed::moved;
+use bits::word::first_difference;
 use entry::entry::{Stage, Station};
 use entry::reading::spelled;
 use event::view::View;
@@ -18,41 +17,56 @@ pub(crate) fn next_round(k: u8) -> u8
 }
 
 // Seeking ends at j.
+#[tactic(auto, unfolding(event::specs::Step::entry_after_seek))]
 fn entry_after_seek(v: View, j: u8) -> Station
     ensures { result ≡ entry_after_seek v j }
 {
-    let t = v.own;
-    let fitting = v.beside;
-    let by_station = v.rule == 1;
-    let last = t.round as u16 + 1 == ceil_log2(v.count) as u16;
-    if by_station {
-        if last {
-            return moved(t, Stage::Decided, j, t.round, t.word, fitting.claim);
+    let own = v.own;
+    if v.rule != 1 {
+        Station {
+            stage: Stage::FinishVoting,
+            cursor: j,
+            ..own
         }
-        return moved(t, Stage::Voting, j, next_round(t.round), t.word, t.decision);
+    } else if own.round as u16 + 1 == ceil_log2(v.count) as u16 {
+        Station {
+            stage: Stage::Decided,
+            cursor: j,
+            decision: v.beside.claim,
+            ..own
+        }
+    } else {
+        Station {
+            stage: Stage::Voting,
+            cursor: j,
+            round: next_round(own.round),
+            ..own
+        }
     }
-    moved(t, Stage::FinishVoting, j, t.round, t.word, t.decision)
 }
 
 // Whether seeking ends at j: its claim is held, and none of the compared bits differs.
+#[tactic(auto, using(bits::proofs::Difference::some_differs))]
 fn seeking_ends(v: View, j: u8) -> bool
     ensures { result ≡ seeking_ends v j }
 {
-    let t = v.own;
-    let beside = v.beside;
-    if mask_has(t.held, j) {
-        return none_differs(first_difference(t.word, spelled(v.rule, j, beside.claim), t.round));
-    }
-    false
+    let own = v.own;
+    mask_has(own.held, j)
+        && first_difference(own.word, spelled(v.rule, j, v.beside.claim), own.round).is_none()
 }
 
 // The cursor is on j, and seeking ends there, or the station goes on seeking.
+#[tactic(auto, unfolding(event::specs::Step::sought))]
 pub fn sought(v: View, j: u8) -> Station
     ensures { result ≡ sought v j }
 {
-    let t = v.own;
     if seeking_ends(v, j) {
-        return entry_after_seek(v, j);
+        entry_after_seek(v, j)
+    } else {
+        Station {
+            stage: Stage::Seeking,
+            cursor: j,
+            ..v.own
+        }
     }
-    moved(t, Stage::Seeking, j, t.round, t.word, t.decision)
 }

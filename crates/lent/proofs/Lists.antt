@@ -5,13 +5,12 @@ use mathlib.Core.Path.{◌≡◌, refl, sym, ◌∙◌, ap, subst}
 use Rattle.consensus.specs.Events.{Event, History, start, ◌▷◌, Opening, Openable}
 use Rattle.consensus.specs.Terms.{Beginning, ClaimsFit}
 use Rattle.settlement.specs.declared.record.Settlement.{Settlement}
-use Rattle.settlement.specs.declared.record.Outcome.{Outcome}
+use Rattle.settlement.specs.Outcome.{Outcome, leaving}
 use Rattle.settlement.specs.Events.{opened, effect, played}
 use Rattle.settlement.specs.Link.{rule_number, record_after}
 use Rattle.settlement.specs.Demands.{AnswersTold, Demand3OfRecords}
 use Rattle.settlement.proofs.Demand1.{demand1}
 use Rattle.settlement.proofs.Link.Demands.{demands}
-use Rattle.lent.specs.Lent.{leaving}
 use Rattle.lent.specs.Lists.{Leaves, Stands, Demand3Lent, LentLists}
 
 -- an outcome written out gives its number and its settlement

@@ -8,7 +8,7 @@ use Rattle.settlement.specs.declared.record.Settlement.{Settlement}
 use Rattle.settlement.specs.Events.{opened, effect, played}
 use Rattle.settlement.specs.Link.{rule_number, record_after}
 use Rattle.settlement.specs.Demands.{AnswersTold, Demand3OfRecords}
-use Rattle.lent.specs.Lent.{leaving}
+use Rattle.settlement.specs.Outcome.{leaving}
 
 -- the contracts of the entries: OPEN n, rule answers k and leaves r; the event e on r answers k and leaves r'
 abbrev pub Opens : (n rule k : ℕ) → Settlement → Type 0

@@ -1,54 +1,58 @@
-// The five events on a lent settlement. Each calls the event by value, stores the settlement that it answers, and answers its number.
+// The five events on a lent settlement. Each calls the event by value, stores the settlement that it answers, and answers the refusal.
+// Document 01 names this form, and the entries one by one.
 ghost use Rattle.std.specs.Prelude.{◌≡◌};
+ghost use Rattle.basics.specs.Refusals.{told};
 ghost use Rattle.consensus.specs.Events.{claim, deliver, step, lose, answer};
+ghost use Rattle.event.specs.Meant.{meant};
 ghost use Rattle.settlement.specs.Events.{played};
-ghost use Rattle.lent.specs.Lent.{leaving};
+ghost use Rattle.settlement.specs.Outcome.{leaving};
 
+use crate::opening::store;
+use basics::refusal::Refusal;
 use bits::word::Word;
+use event::event::Event;
 use settlement::events::{answer, claim, deliver, lose, step};
+use settlement::play::play;
 use settlement::record::Settlement;
 
-// CLAIM s, v.
-pub fn claim_lent(r: &mut Settlement, s: u8, v: Word) -> u8
-    ensures { leaving result r.new ≡ played r.old (claim s v) }
+// One event, whichever it is.
+pub fn play_lent(r: &mut Settlement, e: Event) -> Result<(), Refusal>
+    ensures { leaving (told result) r.new ≡ played r.old (meant e) }
 {
-    let a = claim(*r, s, v);
-    *r = a.settlement;
-    a.number
+    store(r, play(*r, e))
+}
+
+// CLAIM s, v.
+pub fn claim_lent(r: &mut Settlement, s: u8, v: Word) -> Result<(), Refusal>
+    ensures { leaving (told result) r.new ≡ played r.old (claim s v) }
+{
+    store(r, claim(*r, s, v))
 }
 
 // DELIVER t, s.
-pub fn deliver_lent(r: &mut Settlement, t: u8, s: u8) -> u8
-    ensures { leaving result r.new ≡ played r.old (deliver t s) }
+pub fn deliver_lent(r: &mut Settlement, t: u8, s: u8) -> Result<(), Refusal>
+    ensures { leaving (told result) r.new ≡ played r.old (deliver t s) }
 {
-    let a = deliver(*r, t, s);
-    *r = a.settlement;
-    a.number
+    store(r, deliver(*r, t, s))
 }
 
 // STEP s.
-pub fn step_lent(r: &mut Settlement, s: u8) -> u8
-    ensures { leaving result r.new ≡ played r.old (step s) }
+pub fn step_lent(r: &mut Settlement, s: u8) -> Result<(), Refusal>
+    ensures { leaving (told result) r.new ≡ played r.old (step s) }
 {
-    let a = step(*r, s);
-    *r = a.settlement;
-    a.number
+    store(r, step(*r, s))
 }
 
 // LOSE s.
-pub fn lose_lent(r: &mut Settlement, s: u8) -> u8
-    ensures { leaving result r.new ≡ played r.old (lose s) }
+pub fn lose_lent(r: &mut Settlement, s: u8) -> Result<(), Refusal>
+    ensures { leaving (told result) r.new ≡ played r.old (lose s) }
 {
-    let a = lose(*r, s);
-    *r = a.settlement;
-    a.number
+    store(r, lose(*r, s))
 }
 
 // ANSWER b, a.
-pub fn answer_lent(r: &mut Settlement, b: u8, a: u8) -> u8
-    ensures { leaving result r.new ≡ played r.old (answer b a) }
+pub fn answer_lent(r: &mut Settlement, b: u8, a: u8) -> Result<(), Refusal>
+    ensures { leaving (told result) r.new ≡ played r.old (answer b a) }
 {
-    let o = answer(*r, b, a);
-    *r = o.settlement;
-    o.number
+    store(r, answer(*r, b, a))
 }

@@ -4,4 +4,3 @@
 
 pub mod events;
 pub mod opening;
-pub mod through;

@@ -9,7 +9,7 @@ use Rattle.consensus.specs.Events.{Event, claim, deliver, step, lose, answer}
 use Rattle.basics.proofs.Bools.{no_clash}
 use Rattle.basics.proofs.Refusals.{refused_not, tests_in_order}
 use Rattle.settlement.specs.declared.record.Settlement.{Settlement}
-use Rattle.settlement.specs.declared.record.Outcome.{Outcome}
+use Rattle.settlement.specs.Outcome.{Outcome}
 use Rattle.settlement.specs.Events.{tests, number, outcome, effect, played}
 use Rattle.basics.specs.Tests.{Test, when, first_met, NoneMet}
 use Rattle.settlement.specs.Demand1.{MetFirst, Demand1}

@@ -2,6 +2,7 @@
 --     Refusals  what the number of an outcome says of its settlement
 --     Range     what a record that passes the record test says of its numbers
 --     Places    an event may be played on the entries at its places in the arrays
+--     Seek      a seeking station's STEP asks no ballot
 --     Votes     the votes that LOOK shows fit a byte
 --     Demand1   demand 1
 --     Stays     what an event leaves as it was
@@ -13,6 +14,7 @@
 pub mod Refusals
 pub mod Range
 pub mod Places
+pub mod Seek
 pub mod Votes
 pub mod Demand1
 pub mod Link

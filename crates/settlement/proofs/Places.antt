@@ -6,7 +6,7 @@ use mathlib.Core.Bool.{Bool, true, false, not, ◌||◌}
 use native.Mathlib.Nat.{le_refl, lt_of_lt_of_le, mod-lt}
 use native.Mathlib.Omega.{arith}
 use lib.Dec.{eqb, ltb}
-use borrow.Author.Tests.{lt-ltb, ltb-true}
+use borrow.Author.Tests.{lt-ltb, ltb-true, eqb-true, eqb-false}
 use Rattle.basics.specs.Tests.{refuse, first_met}
 use Rattle.basics.proofs.Bools.{by_bool, cond_ind, or_false, not_false→true}
 use Rattle.basics.proofs.Refusals.{refused_not, met}
@@ -18,12 +18,13 @@ use Rattle.entry.specs.declared.entry.Stage.TheVariants.{Voting, Awaiting, Seeki
 use Rattle.event.specs.declared.view.View.{View}
 use Rattle.entry.specs.Stages.{at, in_round, on_finish}
 use Rattle.entry.specs.Entries.{station_entries, ballot_entries, no_station, no_ballot, by_station, ballots}
-use Rattle.event.specs.Places.{own_of, next_cursor, step_beside, beside_of, step_ballot, ballot_of, within}
-use Rattle.event.specs.Change.{number_on, own_after, ballot_after}
+use Rattle.event.specs.Places.{own_of, next_cursor, step_beside, step_ballot, within}
+use Rattle.event.specs.Change.{number_on}
 use Rattle.settlement.specs.declared.record.Settlement.{Settlement}
-use Rattle.settlement.specs.Record.{entry, ballot, with_station, with_ballot, beside_in, ballot_in, view}
+use Rattle.settlement.specs.Record.{entry, beside_in, ballot_in, view}
 use Rattle.settlement.specs.Fault.{fault}
 use Rattle.settlement.specs.Events.{outcome, number, effect, played}
+use Rattle.settlement.specs.InPlace.{seen, stored, advanced, PlayedInPlace}
 use Rattle.settlement.proofs.Refusals.{refused_outcome, accepted_outcome}
 use Rattle.settlement.specs.Look.{look_tests}
 use Rattle.settlement.specs.Tally.{tally_tests}
@@ -134,29 +135,6 @@ tally_place r b h =
     let below = not_false→true _ (refused_not (no_ballot r.count r.rule b) 9 0 refl passed.1).0 in
     within_inside _ _ (lt_of_lt_of_le (ltb-true b _ below) (ballots_few r.count r.rule (few_stations r passed.0)))
 
-abbrev pub own_place : Event → ℕ
-own_place e = within station_entries (own_of e)
-
-abbrev pub beside_place : Settlement → Event → ℕ
-beside_place r e = within station_entries (beside_of r.count (entry r (own_place e)) e)
-
-abbrev pub ballot_place : Settlement → Event → ℕ
-ballot_place r e = within ballot_entries (ballot_of r.rule (entry r (own_place e)) e)
-
-abbrev pub seen : Settlement → Event → View
-seen r e =
-    record {
-      count = r.count;
-      rule = r.rule;
-      own = entry r (own_place e);
-      beside = entry r (beside_place r e);
-      ballot = ballot r (ballot_place r e);
-    }
-
--- the two entries stored at their places
-abbrev pub stored : Settlement → Event → Settlement
-stored r e = with_ballot (ballot_place r e) (ballot_after (seen r e) e) (with_station (own_place e) (own_after (seen r e) e) r)
-
 module _ (r : Settlement) (passes : fault r ≡ false) (e : Event) where
   seen_is : Inside r e → seen r e ≡ view r e
   seen_is i = rw (within_inside _ _ i.own, within_inside _ _ i.beside, within_inside _ _ i.ballot)
@@ -193,6 +171,13 @@ module _ (r : Settlement) (passes : fault r ≡ false) (e : Event) where
   pub played_accepted : number_on (seen r e) e ≡ 0 → played r e ≡ record { number = number_on (seen r e) e; settlement = stored r e }
   unfolding played
   played_accepted z = rw (same_number, same_effect (same_number ∙ z)) (accepted_outcome (number_on (seen r e) e) (stored r e) r z)
+
+pub played_in_place : PlayedInPlace
+unfolding advanced
+played_in_place r passes e =
+    by_bool (eqb (number_on (seen r e) e) 0)
+    (λ z. let z = eqb-true (number_on (seen r e) e) 0 z in accepted_outcome (number_on (seen r e) e) (stored r e) r z ∙ sym (played_accepted r passes e z))
+    (λ n. let n = eqb-false (number_on (seen r e) e) 0 n in refused_outcome (number_on (seen r e) e) (stored r e) r n ∙ sym (played_refused r passes e n))
 
 pub played_faulty : (r : Settlement) (e : Event) → fault r ≡ true → played r e ≡ record { number = 42; settlement = r }
 unfolding played number first_met outcome

@@ -10,13 +10,11 @@ use Rattle.entry.specs.declared.entry.Station.{Station}
 use Rattle.entry.specs.declared.entry.Ballot.{Ballot}
 use Rattle.event.specs.Examples.{same_station, same_ballot, live, lost, voted_by}
 use Rattle.settlement.specs.declared.record.Settlement.{Settlement}
-use Rattle.settlement.specs.declared.record.Outcome.{Outcome}
-use Rattle.settlement.specs.declared.record.Standing.{Standing}
-use Rattle.settlement.specs.declared.record.Tally.{Tally}
+use Rattle.settlement.specs.Outcome.{Outcome}
 use Rattle.settlement.specs.Record.{entry, ballot, with_station, with_ballot}
 use Rattle.settlement.specs.Events.{fresh, opened, played}
-use Rattle.settlement.specs.Look.{looked}
-use Rattle.settlement.specs.Tally.{tallied}
+use Rattle.settlement.specs.Look.{Standing, looked}
+use Rattle.settlement.specs.Tally.{Tally, tallied}
 
 -- OPEN's number, and the count and the rule of the settlement that it answers; an event's number; the whole entry of station s after an event, and of
 -- ballot b; LOOK's whole answer, at a station and at a ballot

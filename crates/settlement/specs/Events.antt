@@ -8,7 +8,7 @@ use Rattle.event.specs.Places.{own_of}
 use Rattle.event.specs.Tests.{tests_on}
 use Rattle.event.specs.Change.{own_after, ballot_after}
 use Rattle.settlement.specs.declared.record.Settlement.{Settlement}
-use Rattle.settlement.specs.declared.record.Outcome.{Outcome}
+use Rattle.settlement.specs.Outcome.{Outcome}
 use Rattle.settlement.specs.Record.{with_station, with_ballot, ballot_in, view}
 use Rattle.settlement.specs.Fault.{fault}
 

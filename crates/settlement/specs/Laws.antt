@@ -8,11 +8,10 @@ use Rattle.entry.specs.declared.entry.Station.{Station}
 use Rattle.entry.specs.declared.entry.Ballot.{Ballot}
 use Rattle.entry.specs.Entries.{ballots, was_cast, answering}
 use Rattle.settlement.specs.declared.record.Settlement.{Settlement}
-use Rattle.settlement.specs.declared.record.Standing.{Standing}
 use Rattle.settlement.specs.Record.{entry, ballot, with_ballot}
 use Rattle.settlement.specs.Fault.{fault}
 use Rattle.settlement.specs.Events.{opened, played}
-use Rattle.settlement.specs.Look.{looked}
+use Rattle.settlement.specs.Look.{Standing, looked}
 
 -- ---- the record test, in words
 

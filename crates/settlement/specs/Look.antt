@@ -1,5 +1,8 @@
 -- LOOK, whole: number, decided, claim and votes (document 01, "LOOK s"). Assumes nothing.
-use Rattle.std.specs.Prelude.{ℕ, ◌+◌, false, cond, List, [], ◌∷◌, eqb}
+use Rattle.std.specs.Prelude.{ℕ, ◌+◌, Bool, false, cond, List, [], ◌∷◌, eqb, Result, Ok, Err}
+use Rattle.std.specs.Option.{is_some, unwrap_or}
+use Rattle.basics.specs.declared.refusal.Refusal.{Refusal}
+use Rattle.basics.specs.Refusals.{number_of}
 use Rattle.basics.specs.Tests.{Test, when, first_met}
 use Rattle.bits.specs.Log.{ceil_log2}
 use Rattle.consensus.specs.Rules.{finish_ballot}
@@ -9,7 +12,7 @@ use Rattle.entry.specs.declared.entry.Station.{Station}
 use Rattle.entry.specs.Stages.{is_decided}
 use Rattle.entry.specs.Entries.{no_station, by_station, bit_ballot}
 use Rattle.settlement.specs.declared.record.Settlement.{Settlement}
-use Rattle.settlement.specs.declared.record.Standing.{Standing}
+use Rattle.settlement.specs.declared.record.Standing as declared_standing
 use Rattle.settlement.specs.Record.{entry}
 use Rattle.settlement.specs.Fault.{fault}
 
@@ -37,6 +40,13 @@ votes n rule t Decided = cond (by_station rule) (ceil_log2 n) (finish_ballot t.r
 abbrev pub shown_claim : Station → ℕ
 shown_claim t = cond (is_decided t.stage) t.decision 0
 
+-- 0 or the number of the refusal; whether the station has decided, its claim, and its votes
+pub record Standing : Type 0 where
+  pub number : ℕ
+  pub decided : Bool
+  pub claim : ℕ
+  pub votes : ℕ
+
 -- "whether s has decided, the claim (0 if undecided) and its votes"
 abbrev pub standing : (n rule : ℕ) → Station → Standing
 standing n rule t = record { number = 0; decided = is_decided t.stage; claim = shown_claim t; votes = votes n rule t t.stage }
@@ -48,3 +58,8 @@ turned_away k = record { number = k; decided = false; claim = 0; votes = 0 }
 unfoldable pub looked : Settlement → ℕ → Standing
 looked r s =
     cond (eqb (first_met (look_tests r s)) 0) (standing r.count r.rule (entry r s)) (turned_away (first_met (look_tests r s)))
+
+-- what an answer of the code tells
+abbrev pub standing_told : Result declared_standing.Standing Refusal → Standing
+standing_told (Ok t) = record { number = 0; decided = is_some t.decided; claim = unwrap_or t.decided 0; votes = t.votes }
+standing_told (Err why) = turned_away (number_of why)

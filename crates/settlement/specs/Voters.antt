@@ -15,11 +15,10 @@ use Rattle.entry.specs.declared.entry.Ballot.{Ballot}
 use Rattle.entry.specs.Entries.{ballots, voters, was_cast}
 use Rattle.event.specs.Said.{PutsIn}
 use Rattle.settlement.specs.declared.record.Settlement.{Settlement}
-use Rattle.settlement.specs.declared.record.Tally.{Tally}
 use Rattle.settlement.specs.Record.{entry, ballot}
 use Rattle.settlement.specs.Events.{played}
 use Rattle.settlement.specs.Link.{record_after}
-use Rattle.settlement.specs.Tally.{tallied}
+use Rattle.settlement.specs.Tally.{Tally, tallied}
 use Rattle.settlement.specs.Laws.{Outside, HasBallot, VotesIn}
 
 -- ---- every record, made-up ones included

@@ -1,27 +1,27 @@
 // LOOK s.
-ghost use Rattle.std.specs.Prelude.{◌≡◌};
+ghost use Rattle.std.specs.Prelude.{◌≡◌, if◌then◌else◌};
+ghost use Rattle.basics.specs.Refusals.{told};
 ghost use Rattle.basics.specs.Tests.{first_met};
-ghost use Rattle.settlement.specs.Look.{look_tests, votes, shown_claim, looked};
+ghost use Rattle.entry.specs.Stages.{is_decided};
+ghost use Rattle.settlement.specs.Look.{look_tests, votes, looked, standing_told};
 
 use crate::fault::faulty;
 use crate::record::{Settlement, Standing};
-use basics::refusal::refuse;
+use basics::refusal::{Refusal, refuse_if};
 use bits::logarithm::ceil_log2;
 use bits::word::Word;
 use entry::entry::{Stage, Station};
 use entry::reading::{bit_ballot, finish_ballot, no_station};
-use entry::stage::is_decided;
 use event::place::station_place;
 
-// The votes of a station that stands so, in a record of n stations.
+// The votes of a station that stands so, in a record of n stations. An image has n and rule as two bytes, so they are handed apart.
+#[tactic(auto, unfolding(crate::specs::Look::votes))]
 pub fn votes(n: u8, rule: u8, t: Station) -> usize
     ensures { result ≡ votes n rule t t.stage }
 {
-    let by_station = rule == 1;
     let before = bit_ballot(rule, t.round);
     let finish = finish_ballot(t.round);
-    let stage = t.stage;
-    match stage {
+    match t.stage {
         Stage::Idle => 0,
         Stage::Waiting => 0,
         Stage::Voting => before,
@@ -29,7 +29,7 @@ pub fn votes(n: u8, rule: u8, t: Station) -> usize
         Stage::Seeking => before + 1,
         Stage::FinishVoting => finish,
         Stage::FinishAwaiting => finish + 1,
-        Stage::Decided => if by_station {
+        Stage::Decided => if rule == 1 {
             ceil_log2(n) as usize
         } else {
             finish + 1
@@ -37,41 +37,30 @@ pub fn votes(n: u8, rule: u8, t: Station) -> usize
     }
 }
 
-// The claim decided, and 0 before.
-pub fn shown_claim(t: Station) -> Word
-    ensures { result ≡ shown_claim t }
+// The claim that a station decided.
+pub fn decided(t: Station) -> Option<Word>
+    ensures { result ≡ (if is_decided t.stage then Some t.decision else None) }
 {
-    let stage = t.stage;
-    let decided = is_decided(stage);
-    if decided { t.decision } else { 0 }
+    t.stage.is_decided().then_some(t.decision)
 }
 
-fn look_number(r: Settlement, s: u8) -> u8
-    ensures { result ≡ first_met (look_tests r s) }
+#[tactic(auto, unfolding(basics::specs::Tests::first_met))]
+fn look_tests(r: &Settlement, s: u8) -> Result<(), Refusal>
+    ensures { told result ≡ first_met (look_tests r.now s) }
 {
-    refuse(faulty(r), 42, refuse(no_station(r.count, s), 1, 0))
+    refuse_if(faulty(r), Refusal::Record)?;
+    refuse_if(no_station(r.count, s), Refusal::NoStation)
 }
 
-// Whether station s has decided, its claim (0 if undecided) and its votes. A refusal gives undecided, 0, 0.
-pub fn look(r: Settlement, s: u8) -> Standing
-    ensures { result ≡ looked r s }
+// The claim that station s decided, and its votes.
+#[tactic(auto, unfolding(crate::specs::Look::looked), using(basics::proofs::Refusals::some_number, crate::proofs::Places::look_place, crate::proofs::Votes::few_votes))]
+pub fn look(r: Settlement, s: u8) -> Result<Standing, Refusal>
+    ensures { standing_told result ≡ looked r s }
 {
-    let number = look_number(r, s);
-    if number != 0 {
-        return Standing {
-            number,
-            decided: false,
-            claim: 0,
-            votes: 0,
-        };
-    }
-    let i = station_place(s);
-    let t = r.stations[i];
-    let stage = t.stage;
-    Standing {
-        number,
-        decided: is_decided(stage),
-        claim: shown_claim(t),
+    look_tests(&r, s)?;
+    let t = r.stations[station_place(s)];
+    Ok(Standing {
+        decided: decided(t),
         votes: votes(r.count, r.rule, t) as u8,
-    }
+    })
 }

@@ -1,4 +1,5 @@
-// The settlement record (document 01, "The settlement"). Nothing else is kept.
+// The settlement record (document 01, "The settlement"), and what is answered about one. Nothing else is kept.
+use basics::refusal::Refusal;
 use bits::word::Word;
 use entry::entry::{BALLOT_ENTRIES, Ballot, STATION_ENTRIES, Station};
 
@@ -11,31 +12,29 @@ pub struct Settlement {
     pub ballots: [Ballot; BALLOT_ENTRIES],
 }
 
-// What OPEN and the events answer: 0 or the number of the refusal, and the settlement.
+// A refused event hands back the settlement that it was given, and a refused OPEN the blank one.
 #[derive(Clone, Copy)]
-pub struct Outcome {
-    pub number: u8,
+pub struct Refused {
+    pub why: Refusal,
     pub settlement: Settlement,
 }
 
-// What LOOK answers: 0 or the number of the refusal; whether the station has decided, its claim, and its votes.
+// What OPEN and the events answer.
+pub type Outcome = Result<Settlement, Refused>;
+
+// What LOOK shows: the claim that the station decided, and its votes.
 #[derive(Clone, Copy)]
 pub struct Standing {
-    pub number: u8,
-    pub decided: bool,
-    pub claim: Word,
+    pub decided: Option<Word>,
     pub votes: u8,
 }
 
-// What a look at a ballot answers: 0 or the number of the refusal; the masks of the stations that cast 0 and 1, how many are in each, whether there
-// is an answer, and the answer.
+// What a look at a ballot shows: the masks of the stations that cast 0 and 1, how many are in each, and the answer.
 #[derive(Clone, Copy)]
 pub struct Tally {
-    pub number: u8,
     pub cast0: u32,
     pub cast1: u32,
     pub count0: u8,
     pub count1: u8,
-    pub answered: bool,
-    pub answer: bool,
+    pub answer: Option<bool>,
 }

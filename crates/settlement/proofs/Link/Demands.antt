@@ -35,14 +35,13 @@ use Rattle.entry.specs.declared.entry.Stage.{Stage}
 use Rattle.entry.specs.declared.entry.Stage.TheVariants.{Idle, Waiting, Voting, Awaiting, Seeking, FinishVoting, FinishAwaiting, Decided as HasDecided}
 use Rattle.entry.specs.declared.entry.Station.{Station}
 use Rattle.settlement.specs.declared.record.Settlement.{Settlement}
-use Rattle.settlement.specs.declared.record.Standing.{Standing}
 use Rattle.consensus.specs.Rules.{finish_ballot}
 use Rattle.entry.specs.Entries.{bit_ballot, station_entries, ballot_entries, blank_station, blank_ballot, no_station, voters}
 use Rattle.settlement.specs.Record.{entry, ballot}
 use Rattle.entry.specs.Stages.{is_decided}
 use Rattle.settlement.specs.Fault.{fault}
 use Rattle.settlement.specs.Events.{open_tests, number, outcome, fresh, blank, opened, effect, played}
-use Rattle.settlement.specs.Look.{look_tests}
+use Rattle.settlement.specs.Look.{Standing, look_tests}
 use Rattle.settlement.specs.Look.{votes, standing, turned_away, looked}
 use Rattle.settlement.specs.Link.{rule_number, record_after, stage_of, answer_in, ShowsPlay}
 use Rattle.settlement.specs.Demands.{AnswersTold, InRanges, Demand2OfRecords, blank_number, Demands}

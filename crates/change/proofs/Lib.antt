@@ -1,0 +1,3 @@
+-- Laws that belong to no one function.
+--     Early     the tests before a stage's own
+pub mod Early

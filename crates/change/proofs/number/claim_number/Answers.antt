@@ -1,7 +1,0 @@
--- `change::number::claim_number`. Assumes nothing.
-use Rattle.basics.specs.Tests.{first_met}
-use Rattle.change.proofs.number.claim_number.Goals as goal
-
-pub returns : goal.returns
-unfolding first_met
-returns c = rw (c.refuse-2.ensures, c.no_station.ensures, c.refuse-later.ensures, c.refuse.ensures, c.not_idle.ensures)
