@@ -1,11 +1,13 @@
 -- An entry and its bytes, both ways. Assumes nothing.
 use Prim.Native.Nat.{ℕ, zero, suc, ◌≤◌, ◌<◌}
-use mathlib.Core.Path.{◌≡◌, refl}
+use mathlib.Core.Path.{◌≡◌, refl, sym, ap, ◌∙◌}
 use mathlib.Core.Bool.{Bool, true, false}
+use Rattle.std.specs.Prelude.{Result, Ok, Err}
+use Rattle.std.specs.Result.{result_unwrap_or}
 use mathlib.Core.List.{List, [], ◌∷◌, ◌++◌}
 use native.Mathlib.Omega.{arith}
-use borrow.Author.Tests.{ltb-false}
-use lib.Dec.{ltb}
+use borrow.Author.Tests.{ltb-false, ne_eqb}
+use lib.Dec.{eqb, ltb}
 use lib.ListN.{length, take}
 use Rattle.basics.specs.Bytes.{byte, InBytes}
 use Rattle.basics.proofs.Bytes.{four_again, bytes_again}
@@ -14,7 +16,8 @@ use Rattle.entry.specs.declared.entry.Stage.{Stage}
 use Rattle.entry.specs.declared.entry.Stage.TheVariants.{Idle, Waiting, Voting, Awaiting, Seeking, FinishVoting, FinishAwaiting, Decided}
 use Rattle.entry.specs.declared.entry.Station.{Station}
 use Rattle.entry.specs.declared.entry.Ballot.{Ballot}
-use Rattle.entry.specs.Stages.{rank}
+use Rattle.entry.specs.declared.stage.NoStage.{NoStage}
+use Rattle.entry.specs.Stages.{rank, Placed}
 use Rattle.image.specs.Lists.{flat}
 use Rattle.image.specs.Entries.{stage_from, mark_byte, mark_from, station_bytes, station_from, voters_bytes, marks_bytes, ballot_from, no_mark, station_unread}
 use Rattle.image.specs.Image.{StationFits, BallotFits}
@@ -44,6 +47,25 @@ rank_again (suc (suc (suc (suc (suc zero))))) h = refl
 rank_again (suc (suc (suc (suc (suc (suc zero)))))) h = refl
 rank_again (suc (suc (suc (suc (suc (suc (suc zero))))))) h = refl
 rank_again (suc (suc (suc (suc (suc (suc (suc (suc x)))))))) h = absurd (omega arith)
+
+no_stage_idle : (x : ℕ) → 7 < x → Idle ≡ stage_from x
+unfolding stage_from
+no_stage_idle x h =
+    let other : (k : ℕ) → k ≤ 7 → eqb x k ≡ false = (λ k l. ne_eqb x k (λ e. omega arith)) in
+    rw (
+      other 1 (omega arith),
+      other 2 (omega arith),
+      other 3 (omega arith),
+      other 4 (omega arith),
+      other 5 (omega arith),
+      other 6 (omega arith),
+      other 7 (omega arith),
+    )
+
+-- the stage that was read back, and idle where there was none
+pub stage_read : (x : ℕ) (r : Result Stage NoStage) → Placed x r → result_unwrap_or r Idle ≡ stage_from x
+stage_read x (Ok g) h = sym (stage_again g) ∙ ap stage_from h
+stage_read x (Err e) h = no_stage_idle x h.1
 
 mark_again : (m : Bool) → mark_from (mark_byte m) ≡ m
 mark_again true = refl

@@ -25,7 +25,7 @@ use Rattle.event.specs.Places.{own_of, next_cursor}
 use Rattle.event.specs.Step.{next_round, at_once, started, staged, bit_taken, finish_taken, last_round, entry_after_seek, seeking_ends, sought, stepped, bit_voted, finish_voted, voted}
 use Rattle.event.specs.Change.{own_after, ballot_after}
 use Rattle.settlement.specs.declared.record.Settlement.{Settlement}
-use Rattle.settlement.specs.declared.record.Outcome.{Outcome}
+use Rattle.settlement.specs.Outcome.{Outcome}
 use Rattle.settlement.specs.Record.{entry, ballot, beside_in, ballot_in, view}
 use Rattle.settlement.specs.Events.{fresh, opened, effect, played}
 use Rattle.settlement.specs.Link.{rule_number, record_after}

@@ -48,6 +48,14 @@ is_image b e =
     }
 
 module _ (b : List ℕ) where
+  pub count_in : (record_in b).count ≡ byte b 1
+  unfolding record_in
+  count_in = refl
+
+  pub rule_in : (record_in b).rule ≡ byte b 2
+  unfolding record_in
+  rule_in = refl
+
   -- the entries as the record has them
   pub entry_in : (s : ℕ) → s < 32 → entry (record_in b) s ≡ station_read b s
   unfolding record_in
@@ -288,10 +296,14 @@ marked : (u : Bool) → (refuse u 42 0 ≡ 0 → ⊥) → refuse u 42 0 ≡ 42
 marked true n = refl
 marked false n = absurd (n refl)
 
+pub other_length_80 : (b : List ℕ) → (length b ≡ 1283 → ⊥) → no_image b ≡ 80
+unfolding no_image first_met
+other_length_80 b n = rw (ne_eqb (length b) 1283 n)
+
 pub numbers_told : NumbersTold
 unfolding no_image first_met
 numbers_told = record {
-  another_length = λ b n. rw (ne_eqb (length b) 1283 n);
+  another_length = other_length_80;
   another_version = λ b e n. rw (e, ne_eqb (byte b 0) 3 n);
   nothing_else = λ b e v n. rw (e, v) (marked (unread b) (rw (e, v) at n));
 }

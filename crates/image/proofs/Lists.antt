@@ -1,13 +1,15 @@
 -- Entries laid one after the other behind other bytes and before others: each is found at its place, an entry replaced is its bytes replaced, and
 -- entries read off the bytes are laid as they stood. Assumes nothing.
-use Prim.Native.Nat.{ℕ, zero, suc, ◌+◌, ◌*◌, ◌≤◌, ◌<◌}
-use mathlib.Core.Path.{◌≡◌, refl, sym, ap, ap₂, ◌∙◌}
+use Prim.Native.Nat.{ℕ, zero, suc, ◌+◌, ◌-◌, ◌*◌, ◌≤◌, ◌<◌}
+use mathlib.Core.Path.{◌≡◌, refl, sym, subst, ap, ap₂, ◌∙◌}
 use mathlib.Core.List.{List, [], ◌∷◌, ◌++◌, append_assoc}
 use native.Mathlib.Nat.{mul-zero, mul-suc, mul-le-mul_left, add_comm, add_assoc, zero-add, zero-lt-suc, le_of_lt, le_of_suc-le-suc, not-suc-le-zero}
 use native.Mathlib.Omega.{arith}
-use lib.ListN.{length, take, drop, get_or, set, length-append}
-use lib.Seq.{ext_get_or, drop-drop, drop_at, take-add, take-suc, take-append-le, take-append-add, drop-append-le, drop-append-add}
+use lib.ListN.{length, take, drop, get_or, set, length-append, length-drop}
+use lib.Seq.{ext_get_or, length-take-le, sets, drop-drop, drop_at, take-add, take-suc, take-append-le, take-append-add, drop-append-le, drop-append-add}
+use borrow.Rule.Slice.PartMut.{put_mid}
 use Rattle.basics.specs.Bytes.{over}
+use Rattle.basics.proofs.Bytes.{to_end, filled}
 use Rattle.image.specs.Lists.{flat, each}
 
 -- ---- bytes replaced in one of two lists
@@ -24,6 +26,22 @@ over_earlier a b p fill h =
     rw (front, back)
     (ap (λ (l : List ℕ). take p a ++ l) (sym (append_assoc fill (drop (p + length fill) a) b))
     ∙ sym (append_assoc (take p a) (fill ++ drop (p + length fill) a) b))
+
+-- bytes that there are stay as many
+pub over_long : (b : List ℕ) (p : ℕ) (fill : List ℕ) → p + length fill ≤ length b → length (over p fill b) ≡ length b
+over_long b p fill h =
+    omega (arith, length-append (take p b) (fill ++ drop (p + length fill) b), length-append fill (drop (p + length fill) b), length-take-le p b (omega arith), length-drop (p + length fill) b)
+
+-- of so many bytes a part from a place on, to the end; lent, it comes back with its start filled
+module _ (b : List ℕ) (size : ℕ) (long : length b ≡ size) where
+  pub part_from : (place : ℕ) → take (size - place) (drop place b) ≡ drop place b
+  part_from place = subst (λ (n : ℕ). take (n - place) (drop place b) ≡ drop place b) long (to_end place b)
+
+  pub part_filled : (place : ℕ) (fill : List ℕ) → place + length fill ≤ size
+      → put_mid place (size - place) b (sets (take (size - place) (drop place b)) 0 fill) ≡ over place fill b
+  part_filled place fill h =
+      subst (λ (n : ℕ). put_mid place (n - place) b (sets (take (n - place) (drop place b)) 0 fill) ≡ over place fill b) long
+      (filled place b fill (omega arith))
 
 -- ---- the first bytes, one by one
 

@@ -17,3 +17,6 @@ pub const VOTERS: usize = STATIONS + STATION_WIDTH * STATION_ENTRIES as usize;
 pub const MARKS: usize = VOTERS + VOTERS_WIDTH * BALLOT_ENTRIES;
 
 pub const IMAGE_BYTES: usize = MARKS + MARKS_WIDTH * BALLOT_ENTRIES;
+
+// As many bytes as an image has.
+pub type Image = [u8; IMAGE_BYTES];

@@ -1,35 +1,20 @@
 // A station's entry, in 20 bytes.
 ghost use Rattle.std.specs.Prelude.{◌≡◌};
 ghost use Rattle.std.proofs.lemmas.List.Edits.{sets};
-ghost use Rattle.image.specs.Entries.{stage_from, mark_byte, station_bytes, station_from};
+ghost use Rattle.image.specs.Entries.{stage_from, station_bytes, station_from};
 
 use basics::buffer::{byte_at, four_at, set_byte, set_four};
 use entry::entry::{Stage, Station};
-use entry::stage::rank;
 
-// The stage with this place in the table of stages.
+// The stage with this place in the table of stages; idle where no stage has it.
 pub fn stage_from(x: u8) -> Stage
     ensures { result ≡ stage_from x }
 {
-    match x {
-        1 => Stage::Waiting,
-        2 => Stage::Voting,
-        3 => Stage::Awaiting,
-        4 => Stage::Seeking,
-        5 => Stage::FinishVoting,
-        6 => Stage::FinishAwaiting,
-        7 => Stage::Decided,
-        _ => Stage::Idle,
-    }
-}
-
-pub fn mark_byte(m: bool) -> u8
-    ensures { result ≡ mark_byte m }
-{
-    if m { 1 } else { 0 }
+    Stage::try_from(x).unwrap_or(Stage::Idle)
 }
 
 // The entry that begins at the part's start.
+#[tactic(auto, unfolding(crate::specs::Entries::station_from))]
 pub fn station_from(part: &[u8]) -> Station
     ensures { result ≡ station_from part.now }
 {
@@ -46,12 +31,12 @@ pub fn station_from(part: &[u8]) -> Station
 }
 
 // The entry stored from the part's start on, as far as the part reaches.
+#[tactic(auto, unfolding(crate::specs::Entries::station_bytes))]
 pub fn write_station(part: &mut [u8], t: Station)
     ensures { part.new ≡ sets part.old 0 (station_bytes t) }
 {
-    let stage = t.stage;
-    set_byte(part, 0, rank(stage));
-    set_byte(part, 1, mark_byte(t.lost));
+    set_byte(part, 0, u8::from(t.stage));
+    set_byte(part, 1, u8::from(t.lost));
     set_byte(part, 2, t.cursor);
     set_byte(part, 3, t.round);
     set_four(part, 4, t.held);

@@ -11,11 +11,9 @@ use Rattle.basics.proofs.Bools.{by_bool}
 use Rattle.consensus.specs.Events.{Event, History, start, ◌▷◌, Opening, Openable}
 use Rattle.consensus.specs.Terms.{Beginning, ClaimsFit}
 use Rattle.settlement.specs.declared.record.Settlement.{Settlement}
-use Rattle.settlement.specs.declared.record.Standing.{Standing}
-use Rattle.settlement.specs.declared.record.Tally.{Tally}
 use Rattle.settlement.specs.Events.{played}
-use Rattle.settlement.specs.Look.{looked}
-use Rattle.settlement.specs.Tally.{tallied}
+use Rattle.settlement.specs.Look.{Standing, looked}
+use Rattle.settlement.specs.Tally.{Tally, tallied}
 use Rattle.settlement.specs.Link.{record_after}
 use Rattle.settlement.specs.Demands.{Demand3OfRecords}
 use Rattle.settlement.proofs.Demand1.{demand1}
@@ -26,7 +24,7 @@ use Rattle.on_image.specs.Events.{image_number, image_after}
 use Rattle.on_image.specs.Look.{looked_on, all_number}
 use Rattle.on_image.specs.Tally.{tally_number, by_value}
 use Rattle.on_image.specs.Lists.{Stands, Demand3OnImage, NoImage, ImageLists}
-use Rattle.on_image.proofs.Laws.{on_image}
+use Rattle.on_image.proofs.Laws.{number_there, after_there}
 use Rattle.on_image.proofs.Looks.{image_shown, no_image_shown}
 use Rattle.image.proofs.Fits.{after_fits}
 
@@ -37,12 +35,12 @@ module _ (r : Settlement) (fits : RecordFits r) where
   there = an_image r fits.station_entries fits.ballot_entries
 
   pub same_number : (e : Event) → image_number (image_of r) e ≡ (played r e).number
-  same_number e = sym (on_image (image_of r) e there).0 ∙ ap (λ (x : Settlement). (played x e).number) (record_again r fits)
+  same_number e = number_there (image_of r) e there ∙ ap (λ (x : Settlement). (played x e).number) (record_again r fits)
 
   -- accepted or refused, the image of what the event answers
   pub same_image : (e : Event) → image_after (image_of r) e ≡ image_of (played r e).settlement
   same_image e =
-      sym (on_image (image_of r) e there).1
+      after_there (image_of r) e there
       ∙ ap (λ (x : Settlement). cond (eqb (played x e).number 0) (image_of (played x e).settlement) (image_of r)) (record_again r fits)
       ∙ by_bool (eqb (played r e).number 0) (λ p. rw p)
       (λ p. rw p (sym (ap image_of (demand1.unchanged r e (eqb-false _ 0 p)))))

@@ -14,17 +14,25 @@ use Rattle.basics.specs.Bytes.{byte}
 use Rattle.basics.specs.Tests.{refuse, first_met}
 use Rattle.basics.proofs.Bools.{by_bool, not_false→true}
 use Rattle.basics.proofs.Refusals.{refused_not}
+use Rattle.std.specs.Prelude.{Option, Some, None, if◌then◌else◌}
+use Rattle.std.specs.Option.{is_some, unwrap_or}
+use Rattle.entry.specs.declared.entry.Station.{Station}
+use Rattle.entry.specs.Stages.{is_decided}
 use Rattle.entry.specs.Entries.{station_entries, no_station}
 use Rattle.settlement.specs.declared.record.Settlement.{Settlement}
-use Rattle.settlement.specs.declared.record.Standing.{Standing}
 use Rattle.settlement.specs.Record.{entry}
 use Rattle.settlement.specs.Fault.{fault}
-use Rattle.settlement.specs.Look.{look_tests, standing, turned_away, looked}
+use Rattle.settlement.specs.Look.{Standing, look_tests, standing, turned_away, votes, looked}
 use Rattle.settlement.proofs.Range.{few_stations}
+use Rattle.image.proofs.Image.{count_in}
 use Rattle.image.specs.Image.{other_length, version, record_in, unread, no_image, tested_first}
 use Rattle.basics.proofs.Bytes.{four_again}
 use Rattle.image.specs.Entries.{mark_byte}
 use Rattle.on_image.specs.Look.{looked_on, standing_bytes, standings, all_number, all_after, all_answer, Looks, standing_word, WordAgain}
+
+-- the claim that a station decided
+abbrev pub decided_claim : Station → Option ℕ
+decided_claim t = if is_decided t.stage then Some t.decision else None
 
 module _ (r : Settlement) (s : ℕ) where
   abbrev tested : ℕ
@@ -46,17 +54,23 @@ module _ (r : Settlement) (s : ℕ) where
   unfolding looked
   shown z = rw z
 
-  turned : (tested ≡ 0 → ⊥) → looked r s ≡ turned_away tested
+  -- what the code shows of a station that may be shown
+  abbrev pub shown_with : Option ℕ → Standing
+  shown_with claim = record { number = 0; decided = is_some claim; claim = unwrap_or claim 0; votes = votes r.count r.rule (entry r s) (entry r s).stage }
+
+  abbrev standing_with : Bool → Standing
+  standing_with d = record { number = 0; decided = d; claim = cond d (entry r s).decision 0; votes = votes r.count r.rule (entry r s) (entry r s).stage }
+
+  pub shown_so : tested ≡ 0 → shown_with (decided_claim (entry r s)) ≡ looked r s
+  shown_so z = by_stage (is_decided (entry r s).stage) ∙ sym (shown z)
+    where
+      by_stage : (d : Bool) → shown_with (if d then Some (entry r s).decision else None) ≡ standing_with d
+      by_stage true = refl
+      by_stage false = refl
+
+  pub turned : 0 < tested → looked r s ≡ turned_away tested
   unfolding looked
-  turned n = rw (ne_eqb tested 0 n)
-
-  pub its_number : (looked r s).number ≡ tested
-  its_number =
-      by_bool (eqb tested 0) (λ p. let z = eqb-true tested 0 p in ap (λ (t : Standing). t.number) (shown z) ∙ sym z)
-      (λ p. ap (λ (t : Standing). t.number) (turned (eqb-false tested 0 p)))
-
-  pub refused_shows : (tested ≡ 0 → ⊥) → looked r s ≡ turned_away (looked r s).number
-  refused_shows n = turned n ∙ ap turned_away (sym its_number)
+  turned n = rw (ne_eqb tested 0 (λ z. omega (arith, n, z)))
 
 module _ (b : List ℕ) (s : ℕ) where
   pub no_image_shown : (no_image b ≡ 0 → ⊥) → looked_on b s ≡ turned_away (no_image b)
@@ -66,33 +80,6 @@ module _ (b : List ℕ) (s : ℕ) where
   pub image_shown : no_image b ≡ 0 → looked_on b s ≡ looked (record_in b) s
   unfolding looked_on
   image_shown z = rw z
-
-  -- a number other than 0 comes with nothing shown
-  pub nothing_shown : ((looked_on b s).number ≡ 0 → ⊥) → turned_away (looked_on b s).number ≡ looked_on b s
-  nothing_shown n = by_bool (eqb (no_image b) 0) yes no
-    where
-      yes : eqb (no_image b) 0 ≡ true → turned_away (looked_on b s).number ≡ looked_on b s
-      yes p =
-          let same = image_shown (eqb-true _ 0 p) in
-          let met : first_met (look_tests (record_in b) s) ≡ 0 → ⊥ = (λ z. n (ap (λ (t : Standing). t.number) same ∙ its_number (record_in b) s ∙ z)) in
-          rw same (sym (refused_shows (record_in b) s met))
-
-      no : eqb (no_image b) 0 ≡ false → turned_away (looked_on b s).number ≡ looked_on b s
-      no p = let none = no_image_shown (eqb-false _ 0 p) in rw none
-
-  -- and 0 with an image, of which LOOK is not refused
-  pub something_shown : (looked_on b s).number ≡ 0 → (no_image b ≡ 0) × (first_met (look_tests (record_in b) s) ≡ 0)
-  something_shown z = by_bool (eqb (no_image b) 0) yes no
-    where
-      yes : eqb (no_image b) 0 ≡ true → (no_image b ≡ 0) × (first_met (look_tests (record_in b) s) ≡ 0)
-      yes p =
-          let an = eqb-true (no_image b) 0 p in
-          (an, sym (its_number (record_in b) s) ∙ sym (ap (λ (t : Standing). t.number) (image_shown an)) ∙ z)
-
-      no : eqb (no_image b) 0 ≡ false → (no_image b ≡ 0) × (first_met (look_tests (record_in b) s) ≡ 0)
-      no p =
-          let n = eqb-false (no_image b) 0 p in
-          absurd (n (sym (ap (λ (t : Standing). t.number) (no_image_shown n)) ∙ z))
 
 -- ---- the bytes and the record first
 
@@ -105,11 +92,33 @@ tested_0 b x e =
     let later = refused_not (fault (record_in b)) 42 x refl both.1 in
     (both.0, later.0, later.1)
 
+-- where both pass, LOOK's own test is left
+pub look_left : (b : List ℕ) (s : ℕ) → tested_first b 0 ≡ 0
+    → (looked_on b s ≡ looked (record_in b) s) × (first_met (look_tests (record_in b) s) ≡ refuse (no_station (byte b 1) s) 1 0)
+unfolding first_met
+look_left b s z =
+    let passed = tested_0 b 0 z in
+    (image_shown b s passed.0, rw (passed.1, count_in b))
+
+-- and where one does not, its number is LOOK's
+pub look_turned : (b : List ℕ) (s : ℕ) → 0 < tested_first b 0 → looked_on b s ≡ turned_away (tested_first b 0)
+unfolding first_met
+look_turned b s n =
+    by_bool (eqb (no_image b) 0)
+    (λ p.
+    let an = eqb-true (no_image b) 0 p in
+    by_bool (fault (record_in b))
+    (λ f.
+    let met : first_met (look_tests (record_in b) s) ≡ 42 = rw f in
+    image_shown b s an ∙ turned (record_in b) s (rw met (omega arith)) ∙ rw (an, f))
+    (λ f. absurd (omega (arith, rw (an, f) at n))))
+    (λ p. no_image_shown b s (eqb-false (no_image b) 0 p) ∙ rw p)
+
 -- what comes after them is asked only where both pass
-tested_then : (b : List ℕ) (x : ℕ) → tested_first b 0 ≡ 0 → tested_first b x ≡ x
+pub tested_then : (b : List ℕ) (x : ℕ) → tested_first b 0 ≡ 0 → tested_first b x ≡ x
 tested_then b x z = let passed = tested_0 b 0 z in rw (passed.0, passed.1)
 
-tested_refused : (b : List ℕ) (x : ℕ) → (tested_first b 0 ≡ 0 → ⊥) → tested_first b x ≡ tested_first b 0
+pub tested_refused : (b : List ℕ) (x : ℕ) → (tested_first b 0 ≡ 0 → ⊥) → tested_first b x ≡ tested_first b 0
 tested_refused b x n =
     by_bool (eqb (no_image b) 0)
     (λ p. by_bool (fault (record_in b)) (λ f. rw (p, f)) (λ f. absurd (n (rw (p, f)))))
@@ -139,7 +148,7 @@ met_30 false e = absurd (omega (arith, e))
 
 -- ---- all stations at once
 
-standings_long : (f : ℕ → Standing) (n : ℕ) → length (standings f n) ≡ 8 * n
+pub standings_long : (f : ℕ → Standing) (n : ℕ) → length (standings f n) ≡ 8 * n
 unfolding standings standing_bytes
 standings_long f zero = refl
 standings_long f (suc n) = length-append (standings f n) (standing_bytes (f n)) ∙ ap (λ (k : ℕ). k + 8) (standings_long f n) ∙ sym (mul-suc 8 n)
@@ -157,18 +166,25 @@ module _ (b out : List ℕ) where
       let fits = refused_not (ltb (length out) (8 * (record_in b).count)) 30 0 refl passed.2 in
       record { an_image = passed.0; passes = passed.1; fits = ltb-false _ _ fits.0 }
 
-  pub all_refused : (all_number b out ≡ 0 → ⊥) → (65536 * all_number b out ≡ all_answer b out) × (out ≡ all_after b out)
-  unfolding all_answer all_after
-  all_refused n = let e = ne_eqb (all_number b out) 0 n in (rw (e, add-zero), rw e)
+  pub all_turned : 0 < tested_first b 0 → all_number b out ≡ tested_first b 0
+  unfolding all_number
+  all_turned n = tested_refused b _ (λ z. omega (arith, n, z))
 
-  pub all_written : all_number b out ≡ 0
-      → (8 * (record_in b).count ≡ all_answer b out) × (sets out 0 (standings (looked (record_in b)) (record_in b).count) ≡ all_after b out)
-  unfolding all_answer all_after
-  all_written z =
+  pub all_left : tested_first b 0 ≡ 0 → all_number b out ≡ refuse (ltb (length out) (8 * byte b 1)) 30 0
+  unfolding all_number
+  all_left z = tested_then b _ z ∙ rw count_in
+
+  pub all_stays : 0 < all_number b out → all_after b out ≡ out
+  unfolding all_after
+  all_stays n = rw (ne_eqb (all_number b out) 0 (λ z. omega (arith, n, z)))
+
+  pub all_there : all_number b out ≡ 0 → all_after b out ≡ sets out 0 (standings (looked (record_in b)) (byte b 1))
+  unfolding all_after
+  all_there z =
       let t = standings (looked (record_in b)) (record_in b).count in
-      (rw (z, zero-add), rw z (sets-eq t out 0 (rw (standings_long, zero-add) (room z).fits)))
+      rw z (sym (sets-eq t out 0 (rw (standings_long, zero-add) (room z).fits)) ∙ rw count_in)
 
-eight : (t : Standing) → length (standing_bytes t) ≡ 8
+pub eight : (t : Standing) → length (standing_bytes t) ≡ 8
 unfolding standing_bytes
 eight t = refl
 
@@ -204,16 +220,16 @@ stays b out z =
     rw z (drop_at all _ (8 * (record_in b).count) long ∙ ap (λ (n : ℕ). drop n out) (zero-add (length all) ∙ long))
 
 pub looks : Looks
-unfolding all_number
+unfolding all_number all_after all_answer
 looks b out = record {
   refused_first = λ n. tested_refused b _ n;
   no_room = λ z l. tested_then b _ z ∙ ap (λ (c : Bool). refuse c 30 0) (lt-ltb (length out) (8 * (record_in b).count) l);
   accepted = λ z l. tested_then b _ z ∙ ap (λ (c : Bool). refuse c 30 0) (le-ltb (length out) (8 * (record_in b).count) l);
   enough = enough b out;
-  count = λ z. sym (all_written b out z).0;
+  count = λ z. rw (z, zero-add);
   each = each b out;
   stays = stays b out;
-  refused = λ n. (sym (all_refused b out n).0, sym (all_refused b out n).1);
+  refused = λ n. (rw (ne_eqb (all_number b out) 0 n, add-zero), rw (ne_eqb (all_number b out) 0 n));
 }
 
 -- ---- the word read again

@@ -2,8 +2,8 @@
 -- Assumes nothing.
 use Rattle.std.specs.Prelude.{ℕ, ◌*◌, ◌≡◌, true, false, List, [], ◌∷◌, replicate, set}
 use Rattle.consensus.specs.Events.{claim, deliver, step, lose, answer}
-use Rattle.settlement.specs.declared.record.Standing.{Standing}
-use Rattle.settlement.specs.declared.record.Tally.{Tally}
+use Rattle.settlement.specs.Look.{Standing}
+use Rattle.settlement.specs.Tally.{Tally}
 use Rattle.on_image.specs.Events.{image_number, image_after}
 use Rattle.on_image.specs.Look.{looked_on, standing_bytes, standing_word, all_answer, all_after}
 use Rattle.on_image.specs.Tally.{tally_bytes, tally_answer, tally_after}

@@ -2,8 +2,7 @@
 use Rattle.std.specs.Prelude.{ℕ, zero, suc, ◌+◌, ◌*◌, ◌/◌, ◌%◌, ◌≤◌, ◌<◌, ◌≡◌, cond, List, [], ◌∷◌, ◌++◌, eqb, ltb, length, take, drop}
 use Rattle.basics.specs.Bytes.{four_bytes, four_from, over}
 use Rattle.basics.specs.Tests.{refuse}
-use Rattle.settlement.specs.declared.record.Standing.{Standing}
-use Rattle.settlement.specs.Look.{looked, turned_away}
+use Rattle.settlement.specs.Look.{Standing, looked, turned_away}
 use Rattle.image.specs.Entries.{mark_byte}
 use Rattle.image.specs.Image.{record_in, no_image, tested_first}
 

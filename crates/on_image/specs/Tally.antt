@@ -3,8 +3,7 @@ use Rattle.std.specs.Prelude.{ℕ, ◌+◌, ◌*◌, ◌≤◌, ◌<◌, ◌≡�
 use Rattle.basics.specs.Bytes.{byte, four_bytes, four_from, over}
 use Rattle.basics.specs.Tests.{refuse}
 use Rattle.entry.specs.Entries.{no_ballot}
-use Rattle.settlement.specs.declared.record.Tally.{Tally}
-use Rattle.settlement.specs.Tally.{tallied}
+use Rattle.settlement.specs.Tally.{Tally, tallied}
 use Rattle.image.specs.Entries.{mark_byte}
 use Rattle.image.specs.Image.{record_in, image_first, tested_first}
 

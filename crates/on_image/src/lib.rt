@@ -6,6 +6,7 @@
 pub mod events;
 pub mod fault;
 pub mod look;
+pub mod look_all;
 pub mod look_ballot;
 pub mod place;
 pub mod play;

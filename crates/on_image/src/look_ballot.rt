@@ -1,58 +1,44 @@
 // LOOK at a ballot of an image.
-ghost use Rattle.std.specs.Prelude.{◌≡◌};
-ghost use Rattle.basics.specs.Written.{Wrote};
-ghost use Rattle.on_image.specs.Tally.{tally_bytes, tally_number, tally_after, tally_answer};
+ghost use Rattle.std.specs.Prelude.{◌≡◌, IfOk};
+ghost use Rattle.basics.specs.Refusals.{told};
+ghost use Rattle.basics.specs.Writers.{Writes};
+ghost use Rattle.settlement.specs.Tally.{tally_said};
+ghost use Rattle.on_image.specs.Tally.{tally_bytes, tally_number, tally_after};
 
-use crate::fault::faulty_in;
+use crate::fault::sound_image;
 use crate::place::ballot_in;
-use basics::refusal::refuse;
-use basics::writer::{put_byte, put_four};
+use basics::refusal::{Refusal, refuse_if};
+use basics::writer::Writer;
 use entry::reading::no_ballot;
-use image::station::mark_byte;
-use image::unread::no_image;
 use settlement::look_ballot::tally;
 use settlement::record::Tally;
 
 // The bytes that a look writes.
 const TALLY_BYTES: usize = 12;
 
-// What a look shows, from the buffer's start on; the place after it.
-fn put_tally(out: &mut [u8], t: Tally) -> usize
-    ensures { Wrote 12 out.old 0 (tally_bytes t) out.new result }
+// What a look shows.
+fn put_tally(w: &mut Writer, t: Tally)
+    ensures { Writes 12 (tally_bytes (tally_said t)) w.old w.new }
 {
-    let a = put_four(out, 0, t.cast0);
-    let b = put_four(out, a, t.cast1);
-    let c = put_byte(out, b, t.count0);
-    let d = put_byte(out, c, t.count1);
-    let e = put_byte(out, d, mark_byte(t.answered));
-    put_byte(out, e, mark_byte(t.answer))
+    w.four(t.cast0);
+    w.four(t.cast1);
+    w.byte(t.count0);
+    w.byte(t.count1);
+    w.byte(u8::from(t.answer.is_some()));
+    w.byte(u8::from(t.answer.unwrap_or(false)));
 }
 
-// The number of a look into a buffer of that length.
-fn tally_number(image: &[u8], b: u8, out: &[u8]) -> u8
-    ensures { result ≡ tally_number image.now b out.now }
+// 12 bytes from the start of the buffer. The bytes written.
+#[tactic(auto, using(basics::proofs::Refusals::some_number, crate::proofs::Tallies::tally_turned, crate::proofs::Tallies::tally_none, crate::proofs::Tallies::tally_left, crate::proofs::Tallies::tally_stays, crate::proofs::Tallies::tally_there, crate::proofs::Tallies::twelve))]
+pub fn look_ballot_on(bytes: &[u8], b: u8, out: &mut [u8]) -> Result<usize, Refusal>
+    ensures refused { told result ≡ tally_number bytes.now b out.old }
+    ensures count { IfOk result (λ n. n ≡ 12) }
+    ensures out_after { out.new ≡ tally_after bytes.now b out.old }
 {
-    let number = no_image(image);
-    if number != 0 {
-        return number;
-    }
-    let later = refuse(
-        no_ballot(image[1], image[2], b),
-        9,
-        refuse(out.len() < TALLY_BYTES, 30, 0),
-    );
-    refuse(faulty_in(image), 42, later)
-}
-
-// 12 bytes from the start of the buffer. 65,536 times the number, and the bytes written.
-pub fn look_ballot_on(image: &[u8], b: u8, out: &mut [u8]) -> u32
-    ensures value { result ≡ tally_answer image.now b out.old }
-    ensures out_after { out.new ≡ tally_after image.now b out.old }
-{
-    let number = tally_number(image, b, out);
-    if number != 0 {
-        return 65536 * (number as u32);
-    }
-    put_tally(out, tally(ballot_in(image, b as usize)));
-    TALLY_BYTES as u32
+    let image = sound_image(bytes)?;
+    refuse_if(no_ballot(image[1], image[2], b), Refusal::NoBallot)?;
+    refuse_if(out.len() < TALLY_BYTES, Refusal::NoRoom)?;
+    let mut w = Writer { out, at: 0 };
+    put_tally(&mut w, tally(ballot_in(image, b as usize)));
+    Ok(w.at)
 }

@@ -8,8 +8,7 @@ use lib.ListN.{length, take, drop, get_or, set, length-append, length-drop, leng
 use lib.Seq.{length-take-le, take_all, take-suc, take-add, take_at, take-append_seam, drop_at, drop-cons, drop-drop, set_at, append_snoc, sets}
 use borrow.Rule.Slice.PartMut.{put_mid}
 use Rattle.basics.specs.Bytes.{over}
-use Rattle.basics.proofs.Bytes.{filled}
-use Rattle.image.proofs.Lists.{Between}
+use Rattle.image.proofs.Lists.{Between, part_filled}
 
 -- the list with its first n entries from the target
 abbrev pub partly : {A : Type 0} → ℕ → List A → List A → List A
@@ -64,21 +63,13 @@ stored_whole {target} {l} {b} {size} t h so = so.so_far ∙ partly_all target l 
 -- the next bytes stored by one to whom the part from there on was lent
 module _ (target l : List ℕ) (size : ℕ) (t : length target ≡ size) (h : length l ≡ size) where
   pub stored_more : {p n : ℕ} {fill b part : List ℕ} → Between target p n fill → Stored target l size p b
-      → part ≡ sets (take (length b - p) (drop p b)) 0 fill → Stored target l size n (put_mid p (length b - p) b part)
+      → part ≡ sets (take (size - p) (drop p b)) 0 fill → Stored target l size n (put_mid p (size - p) b part)
   stored_more {p} {n} {fill} {b} {part} between so e =
-      let whole : put_mid p (length b - p) b part ≡ partly n target l =
+      let whole : put_mid p (size - p) b part ≡ partly n target l =
       rw e
-      (filled p b fill (omega arith) ∙ ap (over p fill) so.so_far ∙ partly_over target l fill (drop n target) p (omega arith) between.there
+      (part_filled b size so.long p fill (omega arith) ∙ ap (over p fill) so.so_far ∙ partly_over target l fill (drop n target) p (omega arith) between.there
       ∙ ap (λ (k : ℕ). partly k target l) between.ends) in
       record { long = ap length whole ∙ partly_long target l n (omega arith) (omega arith) ∙ h; so_far = whole }
-
-  -- the next byte stored
-  pub stored_byte : {b : List ℕ} (i x : ℕ) → i < size → get_or target i 0 ≡ x → Stored target l size i b → Stored target l size (i + 1) (set b i x)
-  stored_byte {b} i x inside next so =
-      record {
-        long = length-set b i x ∙ so.long;
-        so_far = ap₂ (λ (q : List ℕ) (y : ℕ). set q i y) so.so_far (sym next) ∙ partly_set target l i 0 (rw t inside) (rw h inside);
-      }
 
 -- the first three bytes stored
 pub three_set : (b : List ℕ) (x y z : ℕ) → 3 ≤ length b → set (set (set b 0 x) 1 y) 2 z ≡ x ∷ y ∷ z ∷ drop 3 b

@@ -2,7 +2,7 @@
 use Rattle.std.specs.Prelude.{ℕ, ◌≡◌, true, false, cond, List, eqb, length}
 use Rattle.basics.specs.Tests.{refuse}
 use Rattle.settlement.specs.declared.record.Settlement.{Settlement}
-use Rattle.settlement.specs.declared.record.Outcome.{Outcome}
+use Rattle.settlement.specs.Outcome.{Outcome}
 use Rattle.settlement.specs.Fault.{fault}
 use Rattle.settlement.specs.Events.{outcome, blank}
 use Rattle.report.specs.Text.{text}

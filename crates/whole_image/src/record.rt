@@ -1,126 +1,96 @@
 // A whole record read off an image, and stored as one.
-ghost use Rattle.std.specs.Prelude.{◌≡◌, length, take};
-ghost use Rattle.image.specs.Image.{voters_at, marks_at, image_bytes, image_of, stations_in, ballots_in};
+ghost use Rattle.std.specs.Prelude.{◌≡◌};
+ghost use Rattle.basics.specs.Refusals.{told};
+ghost use Rattle.settlement.specs.Outcome.{outcome_told};
+ghost use Rattle.image.specs.Image.{image_of, record_in, stations_in, ballots_in};
 ghost use Rattle.whole_image.specs.Whole.{read_record, stored_number, stored};
 
-use entry::entry::{BALLOT_ENTRIES, STATION_ENTRIES};
+use basics::refusal::Refusal;
+use entry::entry::{BALLOT_ENTRIES, Ballot, STATION_ENTRIES, Station, blank_ballot, blank_station};
 use image::ballot::{ballot_from, write_marks, write_voters};
 use image::layout::{
-    IMAGE_BYTES, MARKS, MARKS_WIDTH, STATION_WIDTH, STATIONS, VERSION, VOTERS, VOTERS_WIDTH,
+    Image, MARKS, MARKS_WIDTH, STATION_WIDTH, STATIONS, VERSION, VOTERS, VOTERS_WIDTH,
 };
 use image::station::{station_from, write_station};
-use image::unread::no_image;
-use settlement::open::open;
-use settlement::record::{Outcome, Settlement};
+use image::unread::as_image;
+use settlement::open::blank;
+use settlement::record::{Outcome, Refused, Settlement};
 
-// The record with the stations of the image.
-fn with_stations(r: Settlement, image: &[u8]) -> Settlement
-    requires { length image.now ≡ image_bytes }
-    ensures { result ≡ record { count = r.count; rule = r.rule; stations = stations_in image.now; ballots = r.ballots } }
+fn stations_in(image: &Image) -> [Station; STATION_ENTRIES as usize]
+    ensures { result ≡ stations_in image.now }
 {
-    let mut next = r;
-    let mut s: u8 = 0;
-    while s < STATION_ENTRIES {
-        let i = s as usize;
-        let t = station_from(&image[STATIONS + STATION_WIDTH * i..]);
-        next.stations[i] = t;
-        s += 1;
+    let mut stations = [blank_station(); STATION_ENTRIES as usize];
+    for (s, t) in stations.iter_mut().enumerate() {
+        *t = station_from(&image[STATIONS + STATION_WIDTH * s..]);
     }
-    next
+    stations
 }
 
-// The record with the ballots of the image.
-fn with_ballots(r: Settlement, image: &[u8]) -> Settlement
-    requires { length image.now ≡ image_bytes }
-    ensures { result ≡ record { count = r.count; rule = r.rule; stations = r.stations; ballots = ballots_in image.now } }
+fn ballots_in(image: &Image) -> [Ballot; BALLOT_ENTRIES]
+    ensures { result ≡ ballots_in image.now }
 {
-    let mut next = r;
-    let mut k: usize = 0;
-    while k < BALLOT_ENTRIES {
-        let t = ballot_from(
+    let mut ballots = [blank_ballot(); BALLOT_ENTRIES];
+    for (k, t) in ballots.iter_mut().enumerate() {
+        *t = ballot_from(
             &image[VOTERS + VOTERS_WIDTH * k..],
             &image[MARKS + MARKS_WIDTH * k..],
         );
-        next.ballots[k] = t;
-        k += 1;
     }
-    next
+    ballots
 }
 
-// The record of an image, and 0; where the bytes are none, their number and the blank settlement.
-pub fn read_record(image: &[u8]) -> Outcome
-    ensures { result ≡ read_record image.now }
+// What the bytes say where they are an image.
+#[tactic(auto, unfolding(image::specs::Image::record_in))]
+pub fn record_in(image: &Image) -> Settlement
+    ensures { result ≡ record_in image.now }
 {
-    let number = no_image(image);
-    let blank = open(0, 1);
-    let mut r = blank.settlement;
-    if number != 0 {
-        return Outcome {
-            number,
-            settlement: r,
-        };
-    }
-    r.count = image[1];
-    r.rule = image[2];
-    Outcome {
-        number,
-        settlement: with_ballots(with_stations(r, image), image),
+    Settlement {
+        count: image[1],
+        rule: image[2],
+        stations: stations_in(image),
+        ballots: ballots_in(image),
     }
 }
 
-// The version, the record's numbers and its stations stored: the image as far as who voted.
-fn store_stations(image: &mut [u8], r: Settlement)
-    requires { length image.old ≡ image_bytes }
-    ensures { take (voters_at 0) image.new ≡ take (voters_at 0) (image_of r) }
+// The record of an image; where the bytes are none, why, and the blank settlement.
+#[tactic(auto, unfolding(crate::specs::Whole::read_record, settlement::specs::Events::outcome), using(basics::proofs::Refusals::some_number))]
+pub fn read_record(bytes: &[u8]) -> Outcome
+    ensures { outcome_told result ≡ read_record bytes.now }
+{
+    match as_image(bytes) {
+        Ok(image) => Ok(record_in(image)),
+        Err(why) => Err(Refused {
+            why,
+            settlement: blank(),
+        }),
+    }
+}
+
+// The version, the record's numbers and its stations; then who voted in the ballots, and then their marks.
+pub fn store(image: &mut Image, r: &Settlement)
+    ensures { image.new ≡ image_of r.now }
 {
     image[0] = VERSION;
     image[1] = r.count;
     image[2] = r.rule;
-    let mut s: u8 = 0;
-    while s < STATION_ENTRIES {
-        let i = s as usize;
-        let t = r.stations[i];
-        write_station(&mut image[STATIONS + STATION_WIDTH * i..], t);
-        s += 1;
+    for (s, t) in r.stations.iter().enumerate() {
+        write_station(&mut image[STATIONS + STATION_WIDTH * s..], *t);
+    }
+    'voters: for (k, t) in r.ballots.iter().enumerate() {
+        write_voters(&mut image[VOTERS + VOTERS_WIDTH * k..], *t);
+    }
+    'marks: for (k, t) in r.ballots.iter().enumerate() {
+        write_marks(&mut image[MARKS + MARKS_WIDTH * k..], *t);
     }
 }
 
-// Who voted in the ballots, stored after them: the image as far as the marks.
-fn store_voters(image: &mut [u8], r: Settlement)
-    requires { (length image.old ≡ image_bytes) × (take (voters_at 0) image.old ≡ take (voters_at 0) (image_of r)) }
-    ensures { take (marks_at 0) image.new ≡ take (marks_at 0) (image_of r) }
+// The record stored as an image; in a buffer of another length nothing.
+#[tactic(auto, unfolding(crate::specs::Whole::stored_number, crate::specs::Whole::stored))]
+pub fn store_record(bytes: &mut [u8], r: &Settlement) -> Result<(), Refusal>
+    ensures refused { told result ≡ stored_number bytes.old 0 }
+    ensures image_after { bytes.new ≡ stored bytes.old r.now }
 {
-    let mut k: usize = 0;
-    while k < BALLOT_ENTRIES {
-        let t = r.ballots[k];
-        write_voters(&mut image[VOTERS + VOTERS_WIDTH * k..], t);
-        k += 1;
-    }
-}
-
-// The marks stored after them: the image whole.
-fn store_marks(image: &mut [u8], r: Settlement)
-    requires { (length image.old ≡ image_bytes) × (take (marks_at 0) image.old ≡ take (marks_at 0) (image_of r)) }
-    ensures { image.new ≡ image_of r }
-{
-    let mut k: usize = 0;
-    while k < BALLOT_ENTRIES {
-        let t = r.ballots[k];
-        write_marks(&mut image[MARKS + MARKS_WIDTH * k..], t);
-        k += 1;
-    }
-}
-
-// The record stored as an image, and the number of what made it; in a buffer of another length nothing, and 80.
-pub fn store_record(image: &mut [u8], r: Settlement, number: u8) -> u8
-    ensures value { result ≡ stored_number image.old number }
-    ensures image_after { image.new ≡ stored image.old r }
-{
-    if image.len() != IMAGE_BYTES {
-        return 80;
-    }
-    store_stations(image, r);
-    store_voters(image, r);
-    store_marks(image, r);
-    number
+    let image: &mut Image = bytes.as_mut_array().ok_or(Refusal::ImageLength)?;
+    store(image, r);
+    Ok(())
 }

@@ -1,36 +1,7 @@
--- `image::station::stage_from`: each arm is the definition's, and the last is where the byte is none of the others. Assumes nothing.
-use borrow.Author.Tests.{ne_eqb}
-use Rattle.image.specs.Entries.{stage_from}
+-- `image::station::stage_from`: a stage's place is read back. Assumes nothing.
+use mathlib.Core.Path.{◌∙◌}
+use Rattle.image.proofs.Entries.{stage_read}
 use Rattle.image.proofs.station.stage_from.Goals as goal
 
-pub returns-in-1 : goal.returns-in-1
-unfolding stage_from
-returns-in-1 c = rw c.in-1.is
-
-pub returns-in-2 : goal.returns-in-2
-unfolding stage_from
-returns-in-2 c = rw c.in-2.is
-
-pub returns-in-3 : goal.returns-in-3
-unfolding stage_from
-returns-in-3 c = rw c.in-3.is
-
-pub returns-in-4 : goal.returns-in-4
-unfolding stage_from
-returns-in-4 c = rw c.in-4.is
-
-pub returns-in-5 : goal.returns-in-5
-unfolding stage_from
-returns-in-5 c = rw c.in-5.is
-
-pub returns-in-6 : goal.returns-in-6
-unfolding stage_from
-returns-in-6 c = rw c.in-6.is
-
-pub returns-in-7 : goal.returns-in-7
-unfolding stage_from
-returns-in-7 c = rw c.in-7.is
-
-pub returns-in_default : goal.returns-in_default
-unfolding stage_from
-returns-in_default c = let r = c.in_default.in_default-own.rest in rw (ne_eqb _ 1 r.0.0.0.0.0.0.1, ne_eqb _ 2 r.0.0.0.0.0.1, ne_eqb _ 3 r.0.0.0.0.1, ne_eqb _ 4 r.0.0.0.1, ne_eqb _ 5 r.0.0.1, ne_eqb _ 6 r.0.1, ne_eqb _ 7 r.1)
+pub returns : goal.returns
+returns c = c.unwrap_or.ensures ∙ stage_read c.args.x c.try_from.result c.try_from.ensures

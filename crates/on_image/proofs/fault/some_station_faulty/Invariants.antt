@@ -1,5 +1,4 @@
--- `on_image::fault::some_station_faulty`: `found` is the definition at the stations passed; the measure is what is left of them. Assumes nothing.
-use Prim.Native.Nat.{◌≤◌, ◌-◌}
+-- `on_image::fault::some_station_faulty`: `found` is the definition at the stations passed. Assumes nothing.
 use mathlib.Core.Path.{◌≡◌}
 use Rattle.basics.specs.Below.{any_below}
 use Rattle.image.specs.Image.{record_in}
@@ -7,7 +6,4 @@ use Rattle.settlement.specs.Fault.{fault_at}
 use Rattle.on_image.proofs.fault.some_station_faulty.Given as goal
 
 abbrev pub invariant-loop-s : goal.invariant-loop-s
-invariant-loop-s l = (l.s ≤ l.n) × (l.found ≡ any_below l.s (fault_at (record_in l.image)))
-
-abbrev pub decreases-loop-s : goal.decreases-loop-s
-decreases-loop-s l = l.n - l.s
+invariant-loop-s l = l.found ≡ any_below l.s (fault_at (record_in l.image))

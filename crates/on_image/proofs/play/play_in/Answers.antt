@@ -1,97 +1,82 @@
 -- `on_image::play::play_in`: a record that passes the record test is played on the entries at the event's places, and two are stored. Assumes nothing.
-use mathlib.Core.Path.{◌≡◌, refl, sym, ap, ◌∙◌}
+use mathlib.Core.Path.{◌≡◌, sym, ap, ◌∙◌}
+use mathlib.Core.Bool.{false, true}
 use native.Mathlib.Omega.{arith}
-use borrow.Author.Tests.{ne_eqb}
-use Rattle.event.specs.declared.change.Change.{Change}
+use borrow.Author.Rules.{rules}
+use Rattle.basics.specs.Refusals.{told, number_of}
+use Rattle.basics.proofs.Refusals.{some_number}
 use Rattle.event.specs.Meant.{meant}
-use Rattle.event.specs.Change.{change_of}
-use Rattle.settlement.specs.declared.record.Outcome.{Outcome}
-use Rattle.settlement.proofs.Places.{seen, played_refused, played_accepted, played_faulty}
+use Rattle.event.specs.Change.{number_on, change_of, Tells}
+use Rattle.settlement.specs.Outcome.{Outcome}
+use Rattle.settlement.specs.InPlace.{seen}
+use Rattle.settlement.proofs.Places.{played_refused, played_accepted, played_faulty}
 use Rattle.image.specs.Image.{record_in}
-use Rattle.image.proofs.Image.{is_image}
 use Rattle.on_image.proofs.Laws.{two_stored}
 use Rattle.on_image.proofs.play.play_in.Goals as goal
-use Rattle.on_image.proofs.play.play_in.Goals.{After-change_of-change}
-
-pub faulty_in-requires : goal.faulty_in-requires
-faulty_in-requires c = (is_image c.args.image.now c.requires).size
+use Rattle.on_image.proofs.play.play_in.Goals.{After-change_of}
 
 -- the change is that of the entries seen at the event's places
-changed : (c : After-change_of-change)
-    → c.change_of-change.result ≡ change_of (seen (record_in c.args.image.now) (meant c.args.e)) (meant c.args.e)
+changed : (c : After-change_of) → Tells c.change_of.result (change_of (seen (record_in c.args.image.now) (meant c.args.e)) (meant c.args.e))
 unfolding record_in
 changed c =
     rw (
-      c.change_of-change.ensures,
       c.ballot_in-ballot.ensures,
       c.ballot_place-k.ensures.place,
       c.ballot_of.ensures,
       c.station_in-beside.ensures,
-      c.station_place-j.ensures.place,
+      c.station_place.ensures.place,
       c.beside_of.ensures,
       c.station_in-own.ensures,
       c.station_place-i.ensures.place,
       c.own_of.ensures,
-    )
+    ) at c.change_of.ensures
 
-pub bounds-image-1 : goal.bounds-image-1
-bounds-image-1 c = let size = (is_image c.args.image.now c.requires).size in omega (arith, size)
+pub returns-in_err-refuse_if-clause-refused : goal.returns-in_err-refuse_if-clause-refused
+returns-in_err-refuse_if-clause-refused c =
+    let faulty : c.faulty_in.result ≡ true = search rules in
+    let says : told c.from_residual.result ≡ 42 = search rules in
+    says ∙ sym (ap (λ (o : Outcome). o.number) (played_faulty (record_in c.args.image.now) (meant c.args.e) (sym c.faulty_in.ensures ∙ faulty)))
 
-pub bounds-image-2 : goal.bounds-image-2
-bounds-image-2 c = let size = (is_image c.args.image.now c.requires).size in omega (arith, size)
-
-pub returns-then-faulty_in : goal.returns-then-faulty_in
-returns-then-faulty_in c =
-    let faulty = played_faulty (record_in c.args.image.now) (meant c.args.e) (sym c.faulty_in.ensures ∙ c.if-faulty_in.true) in
-    record { value = sym (ap (λ (o : Outcome). o.number) faulty); image_after = refl }
-
-pub station_in-own-requires : goal.station_in-own-requires
-station_in-own-requires c = record { image_len = (is_image c.args.image.now c.requires).size; i_lt_station_entries = c.station_place-i.ensures.inside }
-
-pub station_in-beside-requires : goal.station_in-beside-requires
-station_in-beside-requires c = record { image_len = (is_image c.args.image.now c.requires).size; i_lt_station_entries = c.station_place-j.ensures.inside }
-
-pub ballot_in-ballot-requires : goal.ballot_in-ballot-requires
-ballot_in-ballot-requires c = record { image_len = (is_image c.args.image.now c.requires).size; k_lt_ballot_entries = c.ballot_place-k.ensures.inside }
-
-pub returns-then-number-ne0 : goal.returns-then-number-ne0
-returns-then-number-ne0 c =
-    let x = changed (goal.at.returns-then-number-ne0 c).After-change_of-change in
+pub returns-in_err-change-clause-refused : goal.returns-in_err-change-clause-refused
+returns-in_err-change-clause-refused c =
     let r = record_in c.args.image.now in
-    let faultless = sym c.faulty_in.ensures ∙ c.if-faulty_in.false in
-    let refused = played_refused r faultless (meant c.args.e) (rw x at c.if-number-ne0.true) in
-    record {
-      value = ap (λ (o : Change). o.number) x ∙ sym (ap (λ (o : Outcome). o.number) refused);
-      image_after = rw (ne_eqb _ 0 c.if-number-ne0.true);
-    }
+    let e = meant c.args.e in
+    let sound : c.faulty_in.result ≡ false = search rules in
+    let x = (changed (goal.at.returns-in_err-change-clause-refused c).After-change_of).number in
+    let why = c.in_err-change.field-0.0 in
+    let its : number_of why ≡ number_on (seen r e) e = rw c.in_err-change.was at x in
+    let says : told c.from_residual-in_err-change.result ≡ number_of why = search rules in
+    let some = some_number why in
+    says ∙ its ∙ sym (ap (λ (o : Outcome). o.number) (played_refused r (sym c.faulty_in.ensures ∙ sound) e (λ z. omega (arith, some, its, z))))
 
-pub store_station-requires : goal.store_station-requires
-store_station-requires c = record { image_len = (is_image c.args.image.now c.requires).size; i_lt_station_entries = c.station_place-i.ensures.inside }
+pub returns-clause-refused : goal.returns-clause-refused
+returns-clause-refused c =
+    let r = record_in c.args.image.now in
+    let e = meant c.args.e in
+    let sound : c.faulty_in.result ≡ false = search rules in
+    let x = (changed (goal.at.returns-clause-refused c).After-change_of).number in
+    let zero : number_on (seen r e) e ≡ 0 = sym (rw c.in_ok-change.was at x) in
+    sym (ap (λ (o : Outcome). o.number) (played_accepted r (sym c.faulty_in.ensures ∙ sound) e zero) ∙ zero)
 
-pub store_ballot-requires : goal.store_ballot-requires
-store_ballot-requires c = record { image_len = c.image-1.given ∙ (is_image c.args.image.now c.requires).size; k_lt_ballot_entries = c.ballot_place-k.ensures.inside }
-
-pub returns : goal.returns
+pub returns-clause-image_after : goal.returns-clause-image_after
 unfolding record_in
-returns c =
-    let x = changed (goal.at.returns c).After-change_of-change in
+returns-clause-image_after c =
     let r = record_in c.args.image.now in
-    let faultless = sym c.faulty_in.ensures ∙ c.if-faulty_in.false in
-    let accepted = played_accepted r faultless (meant c.args.e) (rw x at c.if-number-ne0.false) in
-    record {
-      value = ap (λ (o : Change). o.number) x ∙ sym (ap (λ (o : Outcome). o.number) accepted);
-      image_after =
-          rw (
-            c.store_ballot.ensures,
-            c.store_station.ensures,
-            c.if-number-ne0.false,
-            two_stored c.args.image.now c.requires (λ i. omega (arith, c.slice_known-1.given i)) _ _ _ _ c.station_place-i.ensures.inside c.ballot_place-k.ensures.inside,
-            accepted,
-            x,
-            c.ballot_place-k.ensures.place,
-            c.ballot_of.ensures,
-            c.station_in-own.ensures,
-            c.station_place-i.ensures.place,
-            c.own_of.ensures,
-          );
-    }
+    let e = meant c.args.e in
+    let sound : c.faulty_in.result ≡ false = search rules in
+    let x = changed (goal.at.returns-clause-image_after c).After-change_of in
+    let zero : number_on (seen r e) e ≡ 0 = sym (rw c.in_ok-change.was at x.number) in
+    let entries = rw c.in_ok-change.was at x.entries in
+    rw (
+      c.store_ballot.ensures,
+      c.store_station.ensures,
+      two_stored c.args.image.now c.requires c.fits-image _ _ _ _ c.station_place-i.ensures.inside c.ballot_place-k.ensures.inside,
+      played_accepted r (sym c.faulty_in.ensures ∙ sound) e zero,
+      entries.0,
+      entries.1,
+      c.ballot_place-k.ensures.place,
+      c.ballot_of.ensures,
+      c.station_in-own.ensures,
+      c.station_place-i.ensures.place,
+      c.own_of.ensures,
+    )
