@@ -1,10 +1,9 @@
 -- PUT as it is called from other languages: a field by its tag and numbers, an answer in one number. Assumes nothing.
-use Rattle.std.specs.Prelude.{ℕ, ◌+◌, ◌*◌, List}
+use Rattle.std.specs.Prelude.{ℕ, ◌+◌, ◌*◌, List, Option, Some, None}
 use Rattle.event.specs.declared.event.Event.TheVariants.{Claim, Deliver, Step, Lose, Answer}
 use Rattle.field.specs.declared.table.Kind as declared_kind
 use Rattle.field.specs.declared.table.Kind.TheVariants as kind
-use Rattle.field.specs.declared.table.Known.{Known}
-use Rattle.field.specs.declared.table.Known.TheVariants.{Row, Unknown}
+use Rattle.field.specs.declared.table.Row as declared_row
 use Rattle.field.specs.declared.field.Field.{Field}
 use Rattle.field.specs.declared.field.Field.TheVariants.{Open, Play, Note}
 use Rattle.put.specs.Put.{put_number, put_count, put_buffer}
@@ -20,11 +19,11 @@ asked kind.Answer x y v = Play (Answer x y)
 asked kind.Note x y v = Note
 
 -- PUT's number and count in one: 65,536 times the number, and the count. A tag that is not in the table: READ's number for it, 21.
-unfoldable pub put_answer : Known → (x y v : ℕ) → (note buffer : List ℕ) → ℕ → ℕ
-put_answer Unknown x y v note buffer place = 21 * 65536
-put_answer (Row row) x y v note buffer place =
+unfoldable pub put_answer : Option declared_row.Row → (x y v : ℕ) → (note buffer : List ℕ) → ℕ → ℕ
+put_answer None x y v note buffer place = 21 * 65536
+put_answer (Some row) x y v note buffer place =
     put_number (asked row.kind x y v) note buffer place * 65536 + put_count (asked row.kind x y v) note buffer place
 
-unfoldable pub put_after : Known → (x y v : ℕ) → (note buffer : List ℕ) → ℕ → List ℕ
-put_after Unknown x y v note buffer place = buffer
-put_after (Row row) x y v note buffer place = put_buffer (asked row.kind x y v) note buffer place
+unfoldable pub put_after : Option declared_row.Row → (x y v : ℕ) → (note buffer : List ℕ) → ℕ → List ℕ
+put_after None x y v note buffer place = buffer
+put_after (Some row) x y v note buffer place = put_buffer (asked row.kind x y v) note buffer place

@@ -24,15 +24,13 @@ use Rattle.event.specs.declared.event.Event as declared_event
 use Rattle.event.specs.declared.event.Event.TheVariants.{Claim, Deliver, Step, Lose, Answer}
 use Rattle.event.specs.Meant.{meant}
 use Rattle.settlement.specs.declared.record.Settlement.{Settlement}
-use Rattle.settlement.specs.declared.record.Standing.{Standing}
 use Rattle.settlement.specs.Events.{blank}
 use Rattle.settlement.specs.Fault.{fault}
 use Rattle.settlement.specs.Record.{entry}
-use Rattle.settlement.specs.Look.{standing, looked}
+use Rattle.settlement.specs.Look.{Standing, standing, looked}
 use Rattle.settlement.specs.Link.{rule_number, record_after}
 use Rattle.field.specs.declared.field.Field.TheVariants.{Play}
-use Rattle.field.specs.declared.read.Reading.TheVariants.{Found}
-use Rattle.field.specs.Read.{found}
+use Rattle.field.specs.Read.{Found, found}
 use Rattle.logs.specs.Run.{ran}
 use Rattle.basics.specs.Bytes.{InBytes}
 use Rattle.logs.specs.Demand.{Spells, nothing, event, note, Unopened, Played}

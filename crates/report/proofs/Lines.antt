@@ -1,26 +1,20 @@
 -- The lines by entries are those of the record: LOOK of a station below n is refused just where the record is faulty. Assumes nothing.
-use Prim.Native.Nat.{ℕ, zero, suc, ◌*◌, ◌<◌}
+use Prim.Native.Nat.{ℕ, zero, suc, ◌<◌}
 use mathlib.Core.Path.{◌≡◌, refl, ap}
 use mathlib.Core.Bool.{Bool, true, false, cond, not, ◌&&◌}
 use mathlib.Core.List.{List, ◌++◌}
 use native.Mathlib.Nat.{le_refl, le_step}
-use lib.Dec.{eqb, ltb}
-use lib.ListN.{length, take, drop, get_or}
-use borrow.Author.Tests.{lt-ltb, ltb-false}
+use lib.Dec.{eqb}
+use lib.ListN.{get_or}
+use borrow.Author.Tests.{lt-ltb}
 use Rattle.basics.specs.Tests.{refuse, first_met}
-use Rattle.basics.proofs.Bools.{by_bool}
-use Rattle.basics.proofs.Lists.{read_past}
-use Rattle.entry.specs.declared.entry.Stage.{Stage}
-use Rattle.entry.specs.declared.entry.Stage.TheVariants.{Idle, Waiting, Voting, Awaiting, Seeking, FinishVoting, FinishAwaiting, Decided}
 use Rattle.entry.specs.declared.entry.Station.{Station}
-use Rattle.entry.specs.Entries.{station_entries, blank_station}
-use Rattle.event.specs.Places.{within}
+use Rattle.entry.specs.Entries.{blank_station}
 use Rattle.entry.specs.Stages.{is_decided}
 use Rattle.settlement.specs.declared.record.Settlement.{Settlement}
-use Rattle.settlement.specs.declared.record.Standing.{Standing}
 use Rattle.settlement.specs.Fault.{fault}
-use Rattle.settlement.specs.Look.{votes, shown_claim, standing, turned_away, looked}
-use Rattle.report.specs.Text.{first_line, stage_word, decision_shown, shown_line, station_line, station_lines, text, entry_line, line_in, words, word_row}
+use Rattle.settlement.specs.Look.{Standing, votes, shown_claim, standing, turned_away, looked}
+use Rattle.report.specs.Text.{first_line, stage_word, decision_shown, shown_line, station_line, station_lines, text, entry_line, line_in}
 
 -- what LOOK shows of a station below n, whose entry is t
 abbrev shown : (n rule : ℕ) → (faulty : Bool) → Station → Standing
@@ -48,18 +42,3 @@ pub text_by_entries : (r : Settlement) (events taken status : ℕ)
 unfolding text
 text_by_entries r events taken status =
     ap (λ (l : List ℕ). first_line r.count r.rule events taken status ++ l) (same_lines _ _ r.count (line_by_entry r))
-
--- the entry at the place of s, or past the array a blank one, is the entry of s
-pub entry_at : (l : List Station) (s : ℕ) → length l ≡ station_entries
-    → cond (ltb s station_entries) (get_or l (within station_entries s) blank_station) blank_station ≡ get_or l s blank_station
-entry_at l s e = by_bool (ltb s station_entries) (λ p. rw p) (λ p. rw p (read_past l blank_station station_entries s e (ltb-false s station_entries p)))
-
-pub word_in_row : (g : Stage) → take (length (stage_word g)) (drop (8 * word_row g) words) ≡ stage_word g
-word_in_row Idle = refl
-word_in_row Waiting = refl
-word_in_row Voting = refl
-word_in_row Awaiting = refl
-word_in_row Seeking = refl
-word_in_row FinishVoting = refl
-word_in_row FinishAwaiting = refl
-word_in_row Decided = refl

@@ -5,8 +5,7 @@ use Rattle.consensus.specs.Events.{History}
 use Rattle.consensus.specs.Told.{Listed}
 use Rattle.event.specs.declared.event.Event.TheVariants.{Claim}
 use Rattle.field.specs.declared.field.Field.TheVariants.{Open, Play}
-use Rattle.field.specs.declared.read.Reading.TheVariants.{Found}
-use Rattle.field.specs.Read.{found}
+use Rattle.field.specs.Read.{Found, found}
 use Rattle.logs.specs.Run.{ran}
 use Rattle.basics.specs.Bytes.{InBytes}
 use Rattle.logs.specs.Demand.{Spells}

@@ -1,8 +1,7 @@
 -- What is printed for a log (document 01, "The program settle"). Assumes nothing.
 use Rattle.std.specs.Prelude.{ℕ, ◌<◌, cond, List, ltb, length}
 use Rattle.settlement.specs.declared.record.Settlement.{Settlement}
-use Rattle.logs.specs.declared.run.Replay.{Replay}
-use Rattle.logs.specs.Run.{ran}
+use Rattle.logs.specs.Run.{Replay, ran}
 use Rattle.report.specs.Text.{text, too_long_text}
 
 -- "a log of at most 65,536 bytes", "plays it with limit 65,536"

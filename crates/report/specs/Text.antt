@@ -63,7 +63,7 @@ text r events taken status = first_line r.count r.rule events taken status ++ st
 unfoldable pub too_long_text : List ℕ
 too_long_text = bytes_of "too long\n"
 
--- ---- the same by entries: what the functions open to this crate alone ensure (a reader may skip it)
+-- ---- the same by entries (a reader may skip it)
 
 -- the line of station s, whose entry is t; on a faulty record LOOK refuses, which gives undecided and no votes
 unfoldable pub entry_line : (n rule : ℕ) → (faulty : Bool) → (s : ℕ) → Station → List ℕ
@@ -73,17 +73,3 @@ entry_line n rule faulty s t =
 -- of an array of entries: past it a blank one is read
 abbrev pub line_in : (n rule : ℕ) → (faulty : Bool) → List Station → ℕ → List ℕ
 line_in n rule faulty stations s = entry_line n rule faulty s (get_or stations s blank_station)
-
--- the words of the stages in rows of eight letters, and the row of each
-abbrev pub words : List ℕ
-words = bytes_of "idle    waiting voting  awaitingseeking decided "
-
-abbrev pub word_row : Stage → ℕ
-word_row Idle = 0
-word_row Waiting = 1
-word_row Voting = 2
-word_row Awaiting = 3
-word_row Seeking = 4
-word_row FinishVoting = 2
-word_row FinishAwaiting = 3
-word_row Decided = 5

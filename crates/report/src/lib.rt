@@ -4,6 +4,7 @@
 #![tactic(auto)]
 
 mod line;
+pub mod progress;
 pub mod report;
 pub mod text;
 mod writer;

@@ -1,136 +1,121 @@
 // The lines of the text.
-ghost use Rattle.std.specs.Prelude.{◌+◌, ◌≤◌, ◌≡◌, cond, ◌++◌, length};
-ghost use Rattle.settlement.specs.Look.{votes};
-ghost use Rattle.report.specs.Text.{first_line, stage_word, decision_shown, presence, entry_line, word_row};
+ghost use Rattle.std.specs.Prelude.{◌+◌, ◌≡◌, ◌≤◌, ◌<◌, ◌++◌, length};
+ghost use Rattle.settlement.specs.Fault.{fault};
+ghost use Rattle.settlement.specs.Look.{looked};
+ghost use Rattle.std.specs.Option.{is_some, unwrap_or};
+ghost use Rattle.settlement.specs.Record.{entry};
+ghost use Rattle.basics.specs.Writers.{Writes};
 ghost use Rattle.report.specs.Decimal.{decimal};
-ghost use Rattle.basics.specs.Written.{Wrote};
+ghost use Rattle.report.specs.Text.{first_line, stage_word, decision_shown, presence, station_line};
 
+use crate::progress::Progress;
 use crate::writer::put_number;
-use basics::writer::{put_byte, put_word};
+use basics::writer::Writer;
 use bits::word::Word;
-use entry::entry::{Stage, Station};
+use entry::entry::{Stage, Station, blank_station};
 use entry::reading::ballot_count;
-use entry::stage::is_decided;
-use settlement::look::{shown_claim, votes};
+use settlement::look::{decided, votes};
+use settlement::record::{Settlement, Standing};
 
 // A number after its name.
-fn put_named(out: &mut [u8], at: usize, name: &[u8], x: usize) -> usize
-    ensures { Wrote (length name.now + 20) out.old at (name.now ++ decimal x) out.new result }
+#[tactic(auto, using(basics::proofs::Writers::writes_then))]
+fn put_named(w: &mut Writer, name: &[u8], x: usize)
+    ensures { Writes (length name.now + 20) (name.now ++ decimal x) w.old w.new }
 {
-    let next = put_word(out, at, name);
-    put_number(out, next, x)
+    w.word(name);
+    put_number(w, x);
 }
 
-// The row of a stage's word in the table of `put_stage`, and how many letters it has.
-fn word_row(stage: Stage) -> usize
-    ensures value { result ≡ word_row stage }
-    ensures upper_bound { result ≤ 5 }
+fn stage_word(stage: Stage) -> &'static [u8]
+    ensures word { result.now ≡ stage_word stage }
+    ensures short { length result.now ≤ 8 }
 {
     match stage {
-        Stage::Idle => 0,
-        Stage::Waiting => 1,
-        Stage::Voting => 2,
-        Stage::Awaiting => 3,
-        Stage::Seeking => 4,
-        Stage::FinishVoting => 2,
-        Stage::FinishAwaiting => 3,
-        Stage::Decided => 5,
+        Stage::Idle => b"idle",
+        Stage::Waiting => b"waiting",
+        Stage::Voting | Stage::FinishVoting => b"voting",
+        Stage::Awaiting | Stage::FinishAwaiting => b"awaiting",
+        Stage::Seeking => b"seeking",
+        Stage::Decided => b"decided",
     }
 }
 
-fn word_length(stage: Stage) -> usize
-    ensures value { result ≡ length (stage_word stage) }
-    ensures upper_bound { result ≤ 8 }
+pub(crate) fn put_first_line(w: &mut Writer, r: &Settlement, progress: Progress)
+    ensures { Writes 180 (first_line r.now.count r.now.rule progress.events progress.taken progress.status) w.old w.new }
 {
-    match stage {
-        Stage::Idle => 4,
-        Stage::Waiting => 7,
-        Stage::Voting => 6,
-        Stage::Awaiting => 8,
-        Stage::Seeking => 7,
-        Stage::FinishVoting => 6,
-        Stage::FinishAwaiting => 8,
-        Stage::Decided => 7,
-    }
-}
-
-fn put_stage(out: &mut [u8], at: usize, stage: Stage) -> usize
-    ensures { Wrote 8 out.old at (stage_word stage) out.new result }
-{
-    let words: &[u8] = b"idle    waiting voting  awaitingseeking decided ";
-    let start = 8 * word_row(stage);
-    let end = start + word_length(stage);
-    put_word(out, at, &words[start..end])
+    put_named(w, b"stations ", r.count as usize);
+    put_named(w, b" rule ", r.rule as usize);
+    put_named(w, b" ballots ", ballot_count(r.count, r.rule));
+    put_named(w, b" events ", progress.events);
+    put_named(w, b" taken ", progress.taken);
+    put_named(w, b" status ", progress.status as usize);
+    w.byte(b'\n');
 }
 
 // The decided claim, or `-`.
-fn put_decision(out: &mut [u8], at: usize, decided: bool, claim: Word) -> usize
-    ensures { Wrote 20 out.old at (decision_shown decided claim) out.new result }
+#[tactic(auto, unfolding(crate::specs::Text::decision_shown), using(basics::proofs::Writers::writes_at_most))]
+fn put_decision(w: &mut Writer, decided: Option<Word>)
+    ensures { Writes 20 (decision_shown (is_some decided) (unwrap_or decided 0)) w.old w.new }
 {
-    if decided {
-        return put_number(out, at, claim as usize);
+    match decided {
+        Some(claim) => put_number(w, claim as usize),
+        None => w.byte(b'-'),
     }
-    put_byte(out, at, b'-')
 }
 
-fn put_presence(out: &mut [u8], at: usize, lost: bool) -> usize
-    ensures { Wrote 5 out.old at (presence lost) out.new result }
+#[tactic(auto, unfolding(crate::specs::Text::presence))]
+fn put_presence(w: &mut Writer, lost: bool)
+    ensures { Writes 5 (presence lost) w.old w.new }
 {
-    if lost {
-        return put_word(out, at, b" lost");
+    w.word(if lost { b" lost" } else { b" live" });
+}
+
+// The entry of station s: past the array a blank one.
+fn entry_of(r: &Settlement, s: u8) -> Station
+    ensures { result ≡ entry r.now s }
+{
+    match r.stations.get(s as usize) {
+        Some(t) => *t,
+        None => blank_station(),
     }
-    put_word(out, at, b" live")
 }
 
-pub(crate) fn put_first_line(
-    out: &mut [u8],
-    at: usize,
-    n: u8,
-    rule: u8,
-    events: usize,
-    taken: usize,
-    status: u8,
-) -> usize
-    ensures { Wrote 180 out.old at (first_line n rule events taken status) out.new result }
+// What LOOK shows of station s: it refuses a faulty record, and then shows neither a claim nor votes.
+#[tactic(auto, unfolding(settlement::specs::Look::looked, basics::specs::Tests::first_met), using(settlement::proofs::Votes::few_votes))]
+fn look_at(r: &Settlement, faulty: bool, s: u8) -> Standing
+    requires tested { faulty ≡ fault r.now }
+    requires known { s < r.now.count }
+    ensures decided { is_some result.decided ≡ (looked r.now s).decided }
+    ensures claim { unwrap_or result.decided 0 ≡ (looked r.now s).claim }
+    ensures votes { result.votes ≡ (looked r.now s).votes }
 {
-    let a = put_named(out, at, b"stations ", n as usize);
-    let b = put_named(out, a, b" rule ", rule as usize);
-    let c = put_named(out, b, b" ballots ", ballot_count(n, rule));
-    let d = put_named(out, c, b" events ", events);
-    let e = put_named(out, d, b" taken ", taken);
-    let f = put_named(out, e, b" status ", status as usize);
-    put_byte(out, f, b'\n')
+    if faulty {
+        return Standing {
+            decided: None,
+            votes: 0,
+        };
+    }
+    let t = entry_of(r, s);
+    Standing {
+        decided: decided(t),
+        votes: votes(r.count, r.rule, t) as u8,
+    }
 }
 
-// The votes that LOOK shows: none where the record is faulty.
-fn shown_votes(n: u8, rule: u8, faulty: bool, t: Station) -> usize
-    ensures { result ≡ cond faulty 0 (votes n rule t t.stage) }
+// The line of station s.
+pub(crate) fn put_station_line(w: &mut Writer, r: &Settlement, faulty: bool, s: u8)
+    requires tested { faulty ≡ fault r.now }
+    requires known { s < r.now.count }
+    ensures { Writes 90 (station_line r.now s) w.old w.new }
 {
-    if faulty { 0 } else { votes(n, rule, t) }
-}
-
-// The line of station s, whose entry is t, in a record of n stations.
-pub(crate) fn put_station_line(
-    out: &mut [u8],
-    at: usize,
-    n: u8,
-    rule: u8,
-    faulty: bool,
-    s: u8,
-    t: Station,
-) -> usize
-    ensures { Wrote 90 out.old at (entry_line n rule faulty s t) out.new result }
-{
-    let stage = t.stage;
-    let decided = !faulty & is_decided(stage);
-    let claim = shown_claim(t);
-    let votes = shown_votes(n, rule, faulty, t);
-    let a = put_number(out, at, s as usize);
-    let b = put_byte(out, a, b' ');
-    let c = put_stage(out, b, stage);
-    let d = put_byte(out, c, b' ');
-    let e = put_decision(out, d, decided, claim);
-    let f = put_named(out, e, b" votes ", votes);
-    let g = put_presence(out, f, t.lost);
-    put_byte(out, g, b'\n')
+    let t = entry_of(r, s);
+    let shown = look_at(r, faulty, s);
+    put_number(w, s as usize);
+    w.byte(b' ');
+    w.word(stage_word(t.stage));
+    w.byte(b' ');
+    put_decision(w, shown.decided);
+    put_named(w, b" votes ", shown.votes as usize);
+    put_presence(w, t.lost);
+    w.byte(b'\n');
 }

@@ -1,17 +1,15 @@
-// Numbers in decimal into a lent buffer.
-ghost use Rattle.basics.specs.Written.{Wrote};
+// Numbers in decimal.
+ghost use Rattle.basics.specs.Writers.{Writes};
 ghost use Rattle.report.specs.Decimal.{decimal};
 
-use basics::writer::put_byte;
+use basics::writer::Writer;
 
-// x in decimal.
-pub(crate) fn put_number(out: &mut [u8], at: usize, x: usize) -> usize
-    ensures { Wrote 20 out.old at (decimal x) out.new result }
+// x in decimal: all its digits but the last, then the last.
+pub(crate) fn put_number(w: &mut Writer, x: usize)
+    ensures { Writes 20 (decimal x) w.old w.new }
 {
-    let digit = 48 + (x % 10) as u8;
-    if x < 10 {
-        return put_byte(out, at, digit);
+    if 10 <= x {
+        put_number(w, x / 10);
     }
-    let next = put_number(out, at, x / 10);
-    put_byte(out, next, digit)
+    w.byte(b'0' + (x % 10) as u8);
 }

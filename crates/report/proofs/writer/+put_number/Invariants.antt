@@ -1,4 +1,4 @@
--- `report::writer::put_number`: all digits but the last, then the last; the measure is the number. Assumes nothing.
+-- `report::writer::put_number`: the measure is the number. Assumes nothing.
 use Rattle.report.proofs.writer.+put_number.Given as goal
 
 abbrev pub decreases-put_number : goal.decreases-put_number

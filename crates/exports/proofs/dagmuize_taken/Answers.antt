@@ -1,6 +1,0 @@
--- `exports::dagmuize_taken`: RUN's promise gives the whole replay, and this is a field of it. Assumes nothing.
-use Rattle.exports.proofs.dagmuize_taken.Goals as goal
-
-pub returns : goal.returns
-returns c =
-    rw c.run-played.ensures
