@@ -1,5 +1,6 @@
 -- Proofs of the code of CLOSE:
 --     Sets        masks of stations, bit by bit
+--     Gathered    the claims at hand, station by station
 --     Few         how many events a turn can have
 --     Measured    the answers of CLOSE
 --     Hand        the mask of the claims at hand
@@ -9,11 +10,15 @@
 --     Onwards     what is left of the closing log
 --     Going       each way through the loop
 pub mod Sets
-pub mod Few
-pub mod Measured
+pub mod Gathered
 pub mod Hand
 pub mod Sound
 pub mod Delivering
 pub mod Seeking
-pub mod Onwards
-pub mod Going
+pub mod Advanced
+pub mod Ends
+pub mod Faulty
+pub mod Turning
+pub mod Parts
+pub mod Passing
+pub mod Measured

@@ -6,7 +6,7 @@ use mathlib.Core.Bool.{Bool, true, false, not, ◌&&◌, ◌||◌}
 use native.Mathlib.Omega.{arith}
 use native.Mathlib.Nat.{mod-lt}
 use lib.Bits.{bit_and, bit_or, bit_xor, differ, and_step, or_step, xor_step}
-use lib.Count.{count_trailing_zeros, under, trailing_le, trailing_of_zero}
+use lib.Count.{count_trailing_zeros, under}
 use lib.Dec.{eqb, ltb}
 use borrow.Author.Tests.{eqb-true, eqb-false, ltb-true, ltb-false}
 use Rattle.basics.proofs.Bools.{by_bool, no_clash}
@@ -14,7 +14,8 @@ use Rattle.bits.specs.Digits.{bit}
 use Rattle.bits.specs.Words.{mask_bits, member}
 use Rattle.bits.proofs.Digits.{bit_low, bit_step, bit_above, half_lt}
 use Rattle.bits.proofs.Masks.{member_none}
-use Rattle.close.specs.Masks.{Missing, Both, Either, Lowest}
+use Rattle.std.specs.Prelude.{Some}
+use Rattle.close.specs.Masks.{Lowest}
 
 -- ---- an operation digit by digit
 
@@ -64,15 +65,16 @@ one_digits x y (inl p) (inr q) = rw (p, q) (omega arith, refl)
 one_digits x y (inr p) (inl q) = rw (p, q) (omega arith, refl)
 one_digits x y (inr p) (inr q) = rw (p, q) (omega arith, refl)
 
-pub both : (a b : ℕ) → Both a b (bit_and a b)
+pub both : (a b t : ℕ) → member t (bit_and a b) ≡ (member t a && member t b)
 unfolding member
 both a b t = bitwise bit_and min ◌&&◌ and_step both_digits t a b
 
-pub either : (a b : ℕ) → Either a b (bit_or a b)
+pub either : (a b t : ℕ) → member t (bit_or a b) ≡ (member t a || member t b)
 unfolding member
 either a b t = bitwise bit_or max ◌||◌ or_step either_digits t a b
 
-pub missing : (a b : ℕ) → Missing a b (bit_xor a (bit_and a b))
+-- those in a that are not in b
+pub missing : (a b t : ℕ) → member t (bit_xor a (bit_and a b)) ≡ (member t a && not (member t b))
 unfolding member
 missing a b t = bitwise bit_xor differ one_of xor_step one_digits t a (bit_and a b) ∙ ap (one_of (bit t a)) (both a b t) ∙ without (bit t a) (bit t b)
   where
@@ -110,24 +112,16 @@ unfolding count_trailing_zeros
 lowest_one zero n l d = absurd (d (omega arith))
 lowest_one (suc k) n l d = one_by n _ (under_digit (n % 2) (count_trailing_zeros k (n / 2)) (digit n)) (lowest_one k (n / 2) (half_lt k n l)) d
 
--- a mask that is not 0 has its lowest inside its room
-found : (mask : ℕ) → mask < 2 ^ mask_bits → (mask ≡ 0 → ⊥) → count_trailing_zeros mask_bits mask < mask_bits
-found mask l d =
-    by_bool (ltb (count_trailing_zeros mask_bits mask) mask_bits) (λ e. ltb-true _ _ e)
-    (λ e. no_clash _ (lowest_one mask_bits mask l d) (bit_above mask_bits mask l _ (ltb-false _ _ e)))
+module _ (mask : ℕ) (fits : mask < 2 ^ mask_bits) (some : mask ≡ 0 → ⊥) where
+  -- a mask that is not empty has its lowest inside its room
+  pub lowest_inside : count_trailing_zeros mask_bits mask < mask_bits
+  lowest_inside =
+      by_bool (ltb (count_trailing_zeros mask_bits mask) mask_bits) (λ e. ltb-true _ _ e)
+      (λ e. no_clash _ (lowest_one mask_bits mask fits some) (bit_above mask_bits mask fits _ (ltb-false _ _ e)))
 
-pub lowest_of : (mask : ℕ) → mask < 2 ^ mask_bits → Lowest mask (count_trailing_zeros mask_bits mask)
-unfolding member
-lowest_of mask l =
-    record {
-      most = trailing_le mask_bits mask;
-      none_below = low_zeros mask_bits mask;
-      empty = λ m. by_bool (eqb mask 0) (λ e. eqb-true mask 0 e) (λ e. absurd (let f = found mask l (eqb-false mask 0 e) in omega arith));
-      is_in = λ m.
-          lowest_one mask_bits mask l (λ z.
-          let k : count_trailing_zeros mask_bits mask ≡ mask_bits = ap (count_trailing_zeros mask_bits) z ∙ trailing_of_zero mask_bits in
-          omega arith);
-    }
+  pub lowest_of : Lowest mask (Some (count_trailing_zeros mask_bits mask))
+  unfolding member
+  lowest_of = (lowest_one mask_bits mask fits some, low_zeros mask_bits mask)
 
 -- nobody is in an empty mask
 pub none_in : {mask : ℕ} → mask ≡ 0 → (t : ℕ) → member t mask ≡ false

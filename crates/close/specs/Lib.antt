@@ -1,10 +1,9 @@
 -- What the crate `close` is about, as a reader must believe it (document 02, A.3); the definitions that it cites are those of the crate `closing`.
---     Contract  what CLOSE answers, and what it leaves in the buffer
 -- And what the code goes by, which a reader may skip:
 --     Masks     sets of stations as masks
 --     Due       what is due at a station's turn, found on entries and masks
---     Played    what the function that plays a closing log promises
-pub mod Contract
 pub mod Masks
 pub mod Due
+pub mod Closer
+pub mod Contract
 pub mod Played

@@ -1,18 +1,15 @@
 // The bound on supplied steps, and the claims at hand, as a settlement has them at the start.
-ghost use Rattle.std.specs.Prelude.{◌≤◌, max, ◌≡◌, cond};
+ghost use Rattle.std.specs.Prelude.{◌≤◌, ◌≡◌, cond};
 ghost use Rattle.bits.specs.Digits.{bit_length};
-ghost use Rattle.bits.specs.Words.{insert};
 ghost use Rattle.entry.specs.Stages.{not_idle};
 ghost use Rattle.entry.specs.Entries.{station_entries};
 ghost use Rattle.close.specs.Masks.{Hand};
 ghost use Rattle.closing.specs.Closing.{longest_put, step_bound};
 
-use crate::mask::{both, either};
 use bits::logarithm::ceil_log2;
 use bits::mask::mask_with;
 use bits::word::bit_length;
 use entry::entry::Station;
-use entry::stage::not_idle;
 use settlement::record::Settlement;
 
 // The length of the claim that a station put in, and 0 where there is none.
@@ -20,69 +17,52 @@ fn put_length(t: Station) -> u8
     ensures value { result ≡ cond (not_idle t.stage) (bit_length t.claim) 0 }
     ensures upper_bound { result ≤ 32 }
 {
-    let stage = t.stage;
-    let claimed = not_idle(stage);
-    if claimed { bit_length(t.claim) } else { 0 }
-}
-
-fn larger(x: u8, y: u8) -> u8
-    ensures { result ≡ max x y }
-{
-    if x <= y { y } else { x }
+    if t.stage.not_idle() {
+        bit_length(t.claim)
+    } else {
+        0
+    }
 }
 
 // K.
-fn longest_put(r: Settlement) -> u8
-    requires { r.count ≤ station_entries }
-    ensures value { result ≡ longest_put r }
+#[tactic(auto, unfolding(closing::specs::Closing::greatest_below))]
+fn longest_put(r: &Settlement) -> u8
+    requires { r.now.count ≤ station_entries }
+    ensures value { result ≡ longest_put r.now }
     ensures upper_bound { result ≤ 32 }
 {
-    let mut most: u8 = 0;
-    let mut s: u8 = 0;
-    while s < r.count {
-        let i = s as usize;
-        most = larger(most, put_length(r.stations[i]));
-        s += 1;
+    let mut most = 0;
+    for t in &r.stations[..r.count as usize] {
+        most = most.max(put_length(*t));
     }
     most
 }
 
-pub(crate) fn step_bound(r: Settlement) -> usize
-    requires { r.count ≤ station_entries }
-    ensures value { result ≡ step_bound r }
+#[tactic(auto, unfolding(closing::specs::Closing::step_bound), using(closing::proofs::SameBound::small, closing::proofs::SameBound::rounds_few))]
+pub(crate) fn step_bound(r: &Settlement) -> usize
+    requires { r.now.count ≤ station_entries }
+    ensures value { result ≡ step_bound r.now }
     ensures upper_bound { result ≤ 1153 }
 {
     let n = r.count as usize;
-    let by_station = r.rule == 1;
-    if by_station {
-        return 1 + (ceil_log2(r.count) as usize) * (n + 2);
+    if r.rule == 1 {
+        return 1 + ceil_log2(r.count) as usize * (n + 2);
     }
-    1 + (longest_put(r) as usize) * (n + 4)
-}
-
-// The mask with station s in it, where it put in a claim.
-fn with_claimer(mask: u32, s: u8, t: Station) -> u32
-    ensures { result ≡ cond (not_idle t.stage) (insert s mask) mask }
-{
-    let stage = t.stage;
-    let claimed = not_idle(stage);
-    if claimed { mask_with(mask, s) } else { mask }
+    1 + longest_put(r) as usize * (n + 4)
 }
 
 // The claims that are put in and that some station holds.
-pub(crate) fn claims_at_hand(r: Settlement) -> u32
-    requires { r.count ≤ station_entries }
-    ensures { Hand r result }
+pub(crate) fn claims_at_hand(r: &Settlement) -> u32
+    requires { r.now.count ≤ station_entries }
+    ensures { Hand r.now result }
 {
-    let mut held: u32 = 0;
-    let mut claimed: u32 = 0;
-    let mut s: u8 = 0;
-    while s < r.count {
-        let i = s as usize;
-        let t = r.stations[i];
-        held = either(held, t.held);
-        claimed = with_claimer(claimed, s, t);
-        s += 1;
+    let mut held = 0;
+    let mut claimed = 0;
+    for (s, t) in r.stations[..r.count as usize].iter().enumerate() {
+        held |= t.held;
+        if t.stage.not_idle() {
+            claimed = mask_with(claimed, s as u8);
+        }
     }
-    both(held, claimed)
+    held & claimed
 }

@@ -5,6 +5,5 @@
 
 mod bound;
 pub mod close;
-mod mask;
-mod play;
+mod closer;
 mod turn;

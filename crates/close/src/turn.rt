@@ -1,60 +1,61 @@
 // What is due at a station's turn.
-ghost use Rattle.std.specs.Prelude.{◌≡◌, not, ◌&&◌};
-ghost use Rattle.closing.specs.Turn.{is_left, awaits, answer_bit};
-ghost use Rattle.close.specs.Due.{Claimer, ThenDue};
+ghost use Rattle.std.specs.Prelude.{◌≡◌, ◌<◌, MatchOption};
+ghost use Rattle.std.specs.List.{list_any};
+ghost use Rattle.closing.specs.Turn.{is_left};
+ghost use Rattle.close.specs.Due.{HasAll, DueClaim, AnswerDue};
+ghost use Rattle.close.specs.Masks.{Lowest};
 
-use crate::mask::{lowest, missing};
 use bits::mask::mask_has;
 use entry::entry::{Ballot, Stage, Station};
 use entry::reading::was_cast;
-use entry::stage::{is_at, is_decided, not_idle};
 use event::event::Event;
 
 // Live, claimed, undecided.
 pub(crate) fn is_left(t: Station) -> bool
     ensures { result ≡ is_left t }
 {
-    let stage = t.stage;
-    !t.lost & (not_idle(stage) & !is_decided(stage))
+    !t.lost && t.stage.not_idle() && !t.stage.is_decided()
 }
 
-// The preferred bit if it was cast, else the other one.
-fn answer_bit(preferred: bool, t: Ballot) -> bool
-    ensures { result ≡ answer_bit preferred t }
+// One of these stations is left.
+pub(crate) fn some_left(stations: &[Station]) -> bool
+    ensures { result ≡ list_any is_left stations.now }
 {
-    let cast = was_cast(t, preferred);
-    if cast { preferred } else { !preferred }
+    stations.iter().any(|t| is_left(*t))
 }
 
-// The answer that a station waits for is missing.
-fn is_missing(own: Station, t: Ballot) -> bool
-    ensures { result ≡ awaits own.stage && not t.answered }
+// The lowest station in the mask.
+fn lowest(mask: u32) -> Option<u8>
+    ensures { Lowest mask result }
 {
-    let stage = own.stage;
-    (is_at(stage, Stage::Awaiting) | is_at(stage, Stage::FinishAwaiting)) & !t.answered
-}
-
-// The claimer of the claim that is due to station s, whose entry is `own`, where `hand` are the claims that are to be had: 32 where none is.
-pub(crate) fn claimer(own: Station, s: u8, hand: u32) -> u8
-    ensures { Claimer own s hand result }
-{
-    let has_own = mask_has(own.held, s);
-    if has_own {
-        return lowest(missing(hand, own.held));
+    if mask == 0 {
+        return None;
     }
-    s
+    Some(u32::trailing_zeros(mask) as u8)
 }
 
-// The event that comes after the claims: t is the entry of the station's ballot b.
-pub(crate) fn then_due(own: Station, s: u8, b: u8, t: Ballot, preferred: bool) -> Event
-    ensures { ThenDue own s b t preferred result }
+// The claimer of the claim that is due to station s, whose entry is `own`, where `hand` are the claims that are to be had.
+pub(crate) fn claim_due(own: Station, s: u8, hand: u32) -> Option<u8>
+    ensures { MatchOption result (HasAll own s hand) (DueClaim own s hand) }
 {
-    let unanswered = is_missing(own, t);
-    if unanswered {
-        return Event::Answer {
-            b,
-            a: answer_bit(preferred, t) as u8,
-        };
+    if !mask_has(own.held, s) {
+        return Some(s);
     }
-    Event::Step { s }
+    lowest(hand ^ (hand & own.held))
+}
+
+// The answer that a station waits for, where it is missing: t is the entry of its ballot b. The preferred bit if it was cast, else the other one.
+pub(crate) fn answer_due(own: Station, b: u8, t: Ballot, preferred: bool) -> Option<Event>
+    ensures { AnswerDue own b t preferred result }
+{
+    let awaits = matches!(own.stage, Stage::Awaiting | Stage::FinishAwaiting);
+    if !awaits || t.answered {
+        return None;
+    }
+    let bit = if was_cast(t, preferred) {
+        preferred
+    } else {
+        !preferred
+    };
+    Some(Event::Answer { b, a: bit as u8 })
 }

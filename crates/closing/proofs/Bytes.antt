@@ -16,8 +16,7 @@ use Rattle.consensus.proofs.Beginnings.{itself, not_empty}
 use Rattle.settlement.specs.Link.{record_after}
 use Rattle.settlement.proofs.Link.Demands.{demands}
 use Rattle.field.proofs.Found.{within}
-use Rattle.logs.specs.declared.run.Replay.{Replay}
-use Rattle.logs.specs.Run.{ran}
+use Rattle.logs.specs.Run.{Replay, ran}
 use Rattle.logs.specs.Demand.{size, Spells, all_taken, Played, RunTold}
 use Rattle.logs.proofs.Played.{log_demand}
 use Rattle.closing.specs.Closing.{closing}

@@ -24,8 +24,7 @@ use Rattle.settlement.proofs.Link.Demands.{demands}
 use Rattle.event.specs.declared.event.Event as declared_event
 use Rattle.event.specs.Meant.{meant}
 use Rattle.field.specs.declared.field.Field.TheVariants.{Open, Play}
-use Rattle.field.specs.declared.read.Reading.TheVariants.{Found}
-use Rattle.field.specs.Read.{found}
+use Rattle.field.specs.Read.{Found, found}
 use Rattle.put.proofs.Again.{read_again}
 use Rattle.logs.specs.Demand.{size, Spells, all_taken, Played}
 use Rattle.logs.proofs.Claims.{found_fits}

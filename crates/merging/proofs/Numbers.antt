@@ -19,12 +19,10 @@ use Rattle.event.specs.declared.event.Event.TheVariants.{Claim, Deliver, Step, L
 use Rattle.event.specs.Meant.{meant}
 use Rattle.settlement.specs.Events.{outcome, opened}
 use Rattle.field.specs.declared.field.Field.TheVariants.{Open, Play, Note}
-use Rattle.field.specs.declared.read.Reading.{Reading}
-use Rattle.field.specs.declared.read.Reading.TheVariants.{Found, Refused}
 use Rattle.field.specs.declared.table.Row as declared_row
 use Rattle.field.specs.Table.{row_of}
 use Rattle.field.specs.Field.{head, kind_of, length_said, field_said}
-use Rattle.field.specs.Read.{taken_of, found}
+use Rattle.field.specs.Read.{Reading, Found, Refused, taken_of, found}
 use Rattle.field.proofs.Found.{row_known, as_said, in_range, Way, met_20, met_21, met_22, met_23, met_none, way, within, refused_range}
 use Rattle.put.specs.Bytes.{bytes}
 use Rattle.written.specs.Bytes.{field_bytes, log_bytes, onto}

@@ -15,9 +15,7 @@ use Rattle.event.specs.declared.event.Event as declared_event
 use Rattle.event.specs.Meant.{meant}
 use Rattle.settlement.specs.Events.{opened}
 use Rattle.field.specs.declared.field.Field.TheVariants.{Open, Play, Note}
-use Rattle.field.specs.declared.read.Reading.{Reading}
-use Rattle.field.specs.declared.read.Reading.TheVariants.{Found, Refused}
-use Rattle.field.specs.Read.{taken_of, found}
+use Rattle.field.specs.Read.{Reading, Found, Refused, taken_of, found}
 use Rattle.field.proofs.Found.{refused_range}
 use Rattle.merging.specs.Merged.{OrderOf, nothing, from_first, from_second}
 use Rattle.merging.specs.Logs.{Rest, with_field, fields, by_first, log_read}

@@ -15,9 +15,7 @@ use Rattle.settlement.specs.Events.{opened}
 use Rattle.settlement.specs.Link.{rule_number}
 use Rattle.settlement.proofs.Link.Demands.{demands}
 use Rattle.field.specs.declared.field.Field.TheVariants.{Open, Play, Note}
-use Rattle.field.specs.declared.read.Reading.{Reading}
-use Rattle.field.specs.declared.read.Reading.TheVariants.{Found, Refused}
-use Rattle.field.specs.Read.{taken_of, found}
+use Rattle.field.specs.Read.{Reading, Found, Refused, taken_of, found}
 use Rattle.field.proofs.Found.{within}
 use Rattle.logs.specs.Demand.{first_unread, no_opening}
 use Rattle.logs.proofs.Statuses.{open_refused}

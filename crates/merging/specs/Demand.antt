@@ -6,8 +6,7 @@ use Rattle.consensus.specs.Events.{History, Opening, Openable}
 use Rattle.consensus.specs.Terms.{ClaimsFit}
 use Rattle.settlement.specs.Link.{record_after}
 use Rattle.settlement.specs.Demands.{Demand3OfRecords}
-use Rattle.logs.specs.declared.run.Replay.{Replay}
-use Rattle.logs.specs.Run.{ran}
+use Rattle.logs.specs.Run.{Replay, ran}
 use Rattle.logs.specs.Demand.{size, Played}
 use Rattle.merging.specs.Merged.{OrderOf}
 use Rattle.merging.specs.Logs.{log_read}

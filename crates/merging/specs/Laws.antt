@@ -8,8 +8,7 @@ use Rattle.consensus.specs.Owners.{AcceptedWhole}
 use Rattle.event.specs.declared.event.Event as declared_event
 use Rattle.event.specs.Meant.{meant}
 use Rattle.field.specs.declared.field.Field.TheVariants.{Open, Play, Note}
-use Rattle.field.specs.declared.read.Reading.TheVariants.{Found, Refused}
-use Rattle.field.specs.Read.{found}
+use Rattle.field.specs.Read.{Found, Refused, found}
 use Rattle.settlement.specs.Link.{rule_number}
 use Rattle.logs.specs.Demand.{NotOpened}
 use Rattle.merging.specs.Merged.{has_events, OrderOf, InTurn, NoOrder}
