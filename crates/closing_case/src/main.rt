@@ -3,21 +3,16 @@
 #![tactic(auto)]
 
 mod case;
-mod input;
-mod print;
 
 use crate::case::{CASE, case};
-use crate::input::read_full;
 use std::io;
 use std::io::Write;
+use streams::input::read_full;
 
 // What is left after the last whole case is not read.
 fn each<W: Write>(to: &mut W, cases: &[u8]) -> io::Result<()> {
-    let mut at: usize = 0;
-    while CASE <= cases.len() - at {
-        let end = at + CASE;
-        case(to, &cases[at..end])?;
-        at = end;
+    for bytes in cases.chunks_exact(CASE) {
+        case(to, bytes)?;
     }
     Ok(())
 }

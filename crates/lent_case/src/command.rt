@@ -6,70 +6,64 @@
 //     r  limit, log  RUN                            b  bytes      BODY
 //     t  taken, log  REST                           d  bytes      READ
 //     c  k, a, b     compares two words             l  claim      its length
-use crate::script::{byte, word};
 use crate::{made_up, parts, print, settled, show};
-use bits::word::{Difference, bit_length, first_difference};
+use basics::buffer::{byte_at, four_at};
+use bits::word::{bit_length, first_difference};
+use field::body::body;
+use field::field::event_from;
+use field::table::{Kind, row_with};
 use logs::rest::rest;
 use settlement::record::Settlement;
 use std::io;
 use std::io::Write;
 
-// What only asks the settlement.
-fn asks<W: Write>(out: &mut W, tag: u8, first: u8, r: Settlement) -> io::Result<()> {
-    match tag {
-        b'K' => settled::looks(out, first, r),
-        b'L' => settled::looks_at_ballot(out, first, r),
-        b'H' => show::head(out, r),
-        b'E' => show::station(out, first, r),
-        b'V' => show::ballot(out, first, r),
-        _ => Ok(()),
-    }
-}
-
-// 1 and the first bit that differs, or 0.
-fn difference<W: Write>(out: &mut W, found: Difference) -> io::Result<()> {
-    match found {
-        Difference::At(place) => {
-            print::mark(out, true)?;
-            print::small(out, place)
-        }
-        Difference::Nowhere => print::mark(out, false),
-    }
-}
-
 // What asks no settlement.
-fn reads<W: Write>(out: &mut W, tag: u8, body: &[u8]) -> io::Result<()> {
+fn reads<W: Write>(out: &mut W, tag: u8, s: &[u8]) -> io::Result<()> {
     match tag {
-        0x30 => print::text(out, body),
-        b'b' => print::part(out, field::body::body(body)),
-        b'd' => parts::read_of(out, body),
-        b't' => print::part(out, rest(rest(body, 4), word(body, 0) as usize)),
-        b'l' => print::small(out, bit_length(word(body, 0))),
-        b'c' => difference(
-            out,
-            first_difference(word(body, 1), word(body, 5), byte(body, 0)),
-        ),
+        b'b' => print::part(out, body(s)),
+        b'd' => parts::read_of(out, s),
+        b't' => print::part(out, rest(rest(s, 4), four_at(s, 0) as usize)),
+        b'l' => print::number(out, bit_length(four_at(s, 0)).into()),
+        // 1 and the first bit that differs, or 0
+        b'c' => match first_difference(four_at(s, 1), four_at(s, 5), byte_at(s, 0)) {
+            Some(place) => print::numbers(out, &[1, place.into()]),
+            None => print::number(out, 0),
+        },
         _ => Ok(()),
     }
 }
 
-// The settlement after the command, where its body begins with these numbers.
-fn changes<W: Write>(
-    out: &mut W,
-    tag: u8,
-    first: u8,
-    second: u8,
-    body: &[u8],
-    r: Settlement,
-) -> io::Result<Settlement> {
+// What only asks the settlement.
+fn asks<W: Write>(out: &mut W, tag: u8, first: u8, r: &Settlement) -> io::Result<()> {
     match tag {
-        0x01 => settled::opens(out, first, second, r),
-        b'N' => Ok(made_up::with_head(first, second, r)),
-        b'S' => Ok(made_up::with_station(first, body, r)),
-        b'B' => Ok(made_up::with_ballot(first, body, r)),
-        b'r' => parts::runs(out, body),
-        0x10..=0x14 => settled::plays(out, settled::event_of(tag, first, second, word(body, 1)), r),
-        _ => Ok(r),
+        b'K' => settled::looks(out, r, first),
+        b'L' => settled::looks_at_ballot(out, r, first),
+        b'H' => show::head(out, r),
+        b'E' => show::station(out, r, first),
+        b'V' => show::ballot(out, r, first),
+        _ => Ok(()),
+    }
+}
+
+// What makes a record up.
+fn makes_up(tag: u8, body: &[u8], r: &mut Settlement) {
+    let first = byte_at(body, 0);
+    match tag {
+        b'N' => made_up::head(r, first, byte_at(body, 1)),
+        b'S' => made_up::station(r, first, body),
+        b'B' => made_up::ballot(r, first, body),
+        _ => {}
+    }
+}
+
+// A field of a log.
+fn takes<W: Write>(out: &mut W, kind: Kind, body: &[u8], r: &mut Settlement) -> io::Result<()> {
+    let first = byte_at(body, 0);
+    let second = byte_at(body, 1);
+    match kind {
+        Kind::Open => settled::opens(out, r, first, second),
+        Kind::Note => out.write_all(body),
+        _ => settled::plays(out, r, event_from(kind, first, second, four_at(body, 1))),
     }
 }
 
@@ -77,10 +71,15 @@ pub(crate) fn command<W: Write>(
     out: &mut W,
     tag: u8,
     body: &[u8],
-    r: Settlement,
-) -> io::Result<Settlement> {
-    let first = byte(body, 0);
-    reads(out, tag, body)?;
-    asks(out, tag, first, r)?;
-    changes(out, tag, first, byte(body, 1), body, r)
+    r: &mut Settlement,
+) -> io::Result<()> {
+    if let Some(row) = row_with(tag) {
+        return takes(out, row.kind, body, r);
+    }
+    if tag == b'r' {
+        return parts::runs(out, r, body);
+    }
+    makes_up(tag, body, r);
+    asks(out, tag, byte_at(body, 0), r)?;
+    reads(out, tag, body)
 }

@@ -4,7 +4,6 @@
 #![tactic(auto)]
 
 mod command;
-mod input;
 mod made_up;
 mod parts;
 mod print;
@@ -12,28 +11,17 @@ mod script;
 mod settled;
 mod show;
 
-use crate::input::read_full;
-use settlement::open::open;
+use crate::command::command;
+use crate::script::Commands;
+use settlement::open::blank;
 use std::io;
 use std::io::Write;
+use streams::input::read_full;
 
-// Command after command; a last one whose body is cut short is not played.
 fn play<W: Write>(out: &mut W, script: &[u8]) -> io::Result<()> {
-    let opened = open(0, 0);
-    let mut r = opened.settlement;
-    let mut at: usize = 0;
-    while at < script.len() {
-        let size = script::size(script, at);
-        if script.len() - at < size {
-            return Ok(());
-        }
-        r = command::command(
-            out,
-            script::byte(script, at),
-            script::body(script, at, size),
-            r,
-        )?;
-        at += size;
+    let mut r = blank();
+    for (tag, body) in Commands(script) {
+        command(out, tag, body, &mut r)?;
     }
     Ok(())
 }

@@ -1,64 +1,26 @@
-// Numbers, bytes and the script's own notes on standard output. The notes have the words: a program of many words takes long to check.
-ghost use Rattle.std.specs.Prelude.{if◌then◌else◌, ◌≡◌, ◌<◌, ◌++◌, length, codes, decimal, OnOk};
+// Numbers and parts of slices on standard output. The notes have the words: a program of many words takes long to check.
+ghost use Rattle.std.specs.Prelude.{◌≡◌, ◌++◌, length, codes, decimal, OnOk};
 ghost use Rattle.std.specs.Io.KnownBytes.{Appends};
-ghost use Rattle.lent_case.specs.Hex.{digit, hex_byte, hex};
+ghost use Rattle.std.specs.List.{flat_map};
+ghost use Rattle.streams.specs.Hex.{hex};
 
 use std::io;
 use std::io::Write;
-
-pub(crate) fn text<W: Write>(out: &mut W, word: &[u8]) -> io::Result<()>
-    ensures { OnOk result (Appends (W.contents out.old) (W.contents out.new) word.now) }
-{
-    out.write_all(word)
-}
+use streams::print::hex;
 
 // A number, and a blank before it.
 pub(crate) fn number<W: Write>(out: &mut W, n: u64) -> io::Result<()>
     ensures { OnOk result (Appends (W.contents out.old) (W.contents out.new) (codes " " ++ decimal n)) }
 {
-    write!(out, " {n}")
+    out.write_all(b" ")?;
+    streams::print::number(out, n)
 }
 
-pub(crate) fn small<W: Write>(out: &mut W, n: u8) -> io::Result<()>
-    ensures { OnOk result (Appends (W.contents out.old) (W.contents out.new) (codes " " ++ decimal n)) }
+pub(crate) fn numbers<W: Write>(out: &mut W, numbers: &[u64]) -> io::Result<()>
+    ensures { OnOk result (Appends (W.contents out.old) (W.contents out.new) (flat_map (λ n. codes " " ++ decimal n) numbers.now)) }
 {
-    number(out, n as u64)
-}
-
-// A claim, or a mask of stations.
-pub(crate) fn claim<W: Write>(out: &mut W, n: u32) -> io::Result<()>
-    ensures { OnOk result (Appends (W.contents out.old) (W.contents out.new) (codes " " ++ decimal n)) }
-{
-    number(out, n as u64)
-}
-
-// 1 where the mark stands.
-pub(crate) fn mark<W: Write>(out: &mut W, b: bool) -> io::Result<()>
-    ensures { OnOk result (Appends (W.contents out.old) (W.contents out.new) (codes " " ++ decimal (if b then 1 else 0))) }
-{
-    number(out, b as u64)
-}
-
-// The code of a digit below 16.
-fn digit(d: u8) -> u8
-    requires { d < 16 }
-    ensures { result ≡ digit d }
-{
-    if d < 10 { b'0' + d } else { 87 + d }
-}
-
-fn byte<W: Write>(out: &mut W, x: u8) -> io::Result<()>
-    ensures { OnOk result (Appends (W.contents out.old) (W.contents out.new) (hex_byte x)) }
-{
-    out.write_all(&[digit(x / 16), digit(x % 16)])
-}
-
-// Each byte as two hexadecimal digits.
-fn bytes<W: Write>(out: &mut W, s: &[u8]) -> io::Result<()>
-    ensures { OnOk result (Appends (W.contents out.old) (W.contents out.new) (hex s.now)) }
-{
-    for x in s {
-        byte(out, *x)?;
+    for n in numbers {
+        number(out, *n)?;
     }
     Ok(())
 }
@@ -69,6 +31,6 @@ pub(crate) fn part<W: Write>(out: &mut W, s: &[u8]) -> io::Result<()>
         (codes " " ++ decimal (length s.now) ++ codes " " ++ hex s.now)) }
 {
     number(out, s.len() as u64)?;
-    text(out, b" ")?;
-    bytes(out, s)
+    out.write_all(b" ")?;
+    hex(out, s)
 }

@@ -1,38 +1,23 @@
-// Commands and numbers in a script's bytes: tag, two-byte length and body, as a field of a log. A byte past the end is 0.
-ghost use Rattle.std.specs.Prelude.{◌+◌, ◌≤◌, length};
+// The commands of a script: tag, two-byte length and body, as a field of a log.
+ghost use Rattle.std.specs.Prelude.{length};
+ghost use Rattle.std.specs.Iterator.{at_most};
 
-use logs::rest::rest;
+// Command after command; a last one whose body is cut short is none.
+#[derive(Drop)]
+pub(crate) struct Commands<'a>(pub(crate) &'a [u8]);
 
-pub(crate) fn byte(s: &[u8], i: usize) -> u8 {
-    if i < s.len() { s[i] } else { 0 }
-}
+impl<'a> Iterator for Commands<'a> {
+    type Item = (u8, &'a [u8]);
 
-// The bytes of the command at a place: a head of three, and as many as it says.
-pub(crate) fn size(s: &[u8], at: usize) -> usize
-    ensures { 3 ≤ result }
-{
-    let command = rest(s, at);
-    let high = byte(command, 1);
-    let low = byte(command, 2);
-    3 + 256 * (high as usize) + (low as usize)
-}
+    ghost remaining = { λ s. at_most (length s.0.now) };
 
-// The body of a command of so many bytes at a place.
-pub(crate) fn body(s: &[u8], at: usize, size: usize) -> &[u8]
-    requires le_size { 3 ≤ size }
-    requires size_in_bounds { at + size ≤ length s.now }
-{
-    let start = at + 3;
-    let end = at + size;
-    &s[start..end]
-}
-
-// Four bytes from i on, high byte first.
-pub(crate) fn word(s: &[u8], i: usize) -> u32 {
-    let from = rest(s, i);
-    let a = byte(from, 0);
-    let b = byte(from, 1);
-    let c = byte(from, 2);
-    let d = byte(from, 3);
-    (a as u32) << 24 | (b as u32) << 16 | (c as u32) << 8 | (d as u32)
+    fn next(&mut self) -> Option<(u8, &'a [u8])> {
+        let [tag, high, low, ..] = self.0 else {
+            return None;
+        };
+        let size = 3 + usize::from(u16::from_be_bytes([*high, *low]));
+        let (command, rest) = self.0.split_at_checked(size)?;
+        self.0 = rest;
+        Some((*tag, &command[3..]))
+    }
 }

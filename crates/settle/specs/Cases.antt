@@ -8,13 +8,11 @@ use Prim.Native.String as text
 use Rattle.std.specs.Bool.{beq}
 use Rattle.bits.specs.Examples.{every}
 use Rattle.consensus.specs.Events.{Event, claim, deliver, step, answer, History, start, ◌▷◌, Rule, rule_1, rule_2, Opening}
-use Rattle.settlement.specs.declared.record.Standing.{Standing}
 use Rattle.settlement.specs.Events.{opened, played}
-use Rattle.settlement.specs.Look.{looked}
+use Rattle.settlement.specs.Look.{Standing, looked}
 use Rattle.settlement.specs.Link.{record_after, all_accepted}
 use Rattle.field.specs.Examples.{same}
-use Rattle.logs.specs.declared.run.Replay.{Replay}
-use Rattle.logs.specs.Run.{ran}
+use Rattle.logs.specs.Run.{Replay, ran}
 use Rattle.report.specs.Quoted.{bytes_of}
 use Rattle.report.specs.Report.{report}
 

@@ -1,7 +1,7 @@
 -- What was read stands at the start of the buffer, and each turn leaves less of it to fill. Assumes nothing.
 use Rattle.std.proofs.Common.{length, ◌-◌, ◌≡◌, ◌≤◌, take}
 use Rattle.std.specs.Io.KnownBytes.{Consumes}
-use Rattle.lent_case.proofs.input.read_full.Given as goal
+use Rattle.streams.proofs.input.read_full.Given as goal
 
 abbrev pub invariant-loop-length : goal.invariant-loop-length
 invariant-loop-length g l =
