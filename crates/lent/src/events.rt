@@ -12,47 +12,52 @@ use basics::refusal::Refusal;
 use bits::word::Word;
 use event::event::Event;
 use settlement::events::{answer, claim, deliver, lose, step};
-use settlement::play::play;
 use settlement::record::Settlement;
-
-// One event, whichever it is.
-pub fn play_lent(r: &mut Settlement, e: Event) -> Result<(), Refusal>
-    ensures { leaving (told result) r.new ≡ played r.old (meant e) }
-{
-    store(r, play(*r, e))
-}
 
 // CLAIM s, v.
 pub fn claim_lent(r: &mut Settlement, s: u8, v: Word) -> Result<(), Refusal>
     ensures { leaving (told result) r.new ≡ played r.old (claim s v) }
 {
-    store(r, claim(*r, s, v))
+    store(r, &claim(*r, s, v))
 }
 
 // DELIVER t, s.
 pub fn deliver_lent(r: &mut Settlement, t: u8, s: u8) -> Result<(), Refusal>
     ensures { leaving (told result) r.new ≡ played r.old (deliver t s) }
 {
-    store(r, deliver(*r, t, s))
+    store(r, &deliver(*r, t, s))
 }
 
 // STEP s.
 pub fn step_lent(r: &mut Settlement, s: u8) -> Result<(), Refusal>
     ensures { leaving (told result) r.new ≡ played r.old (step s) }
 {
-    store(r, step(*r, s))
+    store(r, &step(*r, s))
 }
 
 // LOSE s.
 pub fn lose_lent(r: &mut Settlement, s: u8) -> Result<(), Refusal>
     ensures { leaving (told result) r.new ≡ played r.old (lose s) }
 {
-    store(r, lose(*r, s))
+    store(r, &lose(*r, s))
 }
 
 // ANSWER b, a.
 pub fn answer_lent(r: &mut Settlement, b: u8, a: u8) -> Result<(), Refusal>
     ensures { leaving (told result) r.new ≡ played r.old (answer b a) }
 {
-    store(r, answer(*r, b, a))
+    store(r, &answer(*r, b, a))
+}
+
+// One event, whichever it is, by the entry of its name.
+pub fn play_lent(r: &mut Settlement, e: Event) -> Result<(), Refusal>
+    ensures { leaving (told result) r.new ≡ played r.old (meant e) }
+{
+    match e {
+        Event::Claim { s, v } => claim_lent(r, s, v),
+        Event::Deliver { t, s } => deliver_lent(r, t, s),
+        Event::Step { s } => step_lent(r, s),
+        Event::Lose { s } => lose_lent(r, s),
+        Event::Answer { b, a } => answer_lent(r, b, a),
+    }
 }

@@ -15,12 +15,12 @@ use settlement::record::{Outcome, Settlement, Standing, Tally};
 // What a call by value answers, stored: a refused event hands back the very settlement that it was given.
 // Where the compiler puts this into its caller, it takes the answer apart entry by entry.
 #[inline(never)]
-pub(crate) fn store(r: &mut Settlement, outcome: Outcome) -> Result<(), Refusal>
-    ensures { leaving (told result) r.new ≡ outcome_told outcome }
+pub(crate) fn store(r: &mut Settlement, outcome: &Outcome) -> Result<(), Refusal>
+    ensures { leaving (told result) r.new ≡ outcome_told outcome.now }
 {
     match outcome {
         Ok(settlement) => {
-            *r = settlement;
+            *r = *settlement;
             Ok(())
         }
         Err(refused) => {
@@ -34,7 +34,7 @@ pub(crate) fn store(r: &mut Settlement, outcome: Outcome) -> Result<(), Refusal>
 pub fn open_lent(r: &mut Settlement, n: u8, rule: u8) -> Result<(), Refusal>
     ensures { leaving (told result) r.new ≡ opened n rule }
 {
-    store(r, open(n, rule))
+    store(r, &open(n, rule))
 }
 
 // LOOK s. The settlement is only read.

@@ -1,7 +1,8 @@
 // The record test, which gives 42.
-ghost use Rattle.std.specs.Prelude.{◌≡◌};
-ghost use Rattle.std.specs.List.{list_any};
-ghost use Rattle.settlement.specs.Fault.{station_fault, fault};
+ghost use Rattle.std.specs.Prelude.{◌≡◌, ◌≤◌};
+ghost use Rattle.basics.specs.Below.{any_below};
+ghost use Rattle.entry.specs.Entries.{station_entries};
+ghost use Rattle.settlement.specs.Fault.{station_fault, fault_at, fault};
 
 use crate::record::Settlement;
 use bits::logarithm::ceil_log2;
@@ -19,20 +20,24 @@ pub fn station_faulty(n: u8, rule: u8, t: Station) -> bool
         | (rule == 2) & t.stage.past_waiting() & (WORD_BITS <= t.round)
 }
 
-// Whether one of these stations has a fault.
-fn some_faulty(n: u8, rule: u8, stations: &[Station]) -> bool
-    ensures { result ≡ list_any (station_fault n rule) stations.now }
+// Whether a station below n has a fault. All are asked, with no way out before the last: so the compiler asks several at once.
+fn some_station_faulty(r: &Settlement) -> bool
+    requires { r.now.count ≤ station_entries }
+    ensures { result ≡ any_below r.now.count (fault_at r.now) }
 {
-    stations.iter().any(|t| station_faulty(n, rule, *t))
+    let mut found = false;
+    for t in &r.stations[..r.count as usize] {
+        found |= station_faulty(r.count, r.rule, *t);
+    }
+    found
 }
 
 #[tactic(auto, unfolding(crate::specs::Fault::fault))]
 pub fn faulty(r: &Settlement) -> bool
     ensures { result ≡ fault r.now }
 {
-    let n = r.count;
-    if STATION_ENTRIES < n {
+    if STATION_ENTRIES < r.count {
         return true;
     }
-    !((r.rule == 1) | (r.rule == 2)) | some_faulty(n, r.rule, &r.stations[..n as usize])
+    !((r.rule == 1) | (r.rule == 2)) | some_station_faulty(r)
 }

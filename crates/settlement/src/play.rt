@@ -67,7 +67,8 @@ fn change_there(r: &mut Settlement, e: Event) -> Result<(), Refusal>
     Ok(())
 }
 
-// The event where the settlement stands, without the record test.
+// The event where the settlement stands, without the record test. Beside CLOSE in one archive RUN would not have it in its loop.
+#[inline(always)]
 pub fn advance(r: &mut Settlement, e: Event) -> Result<(), Refusal>
     ensures { leaving (told result) r.new ≡ advanced r.old (meant e) }
 {
@@ -80,7 +81,7 @@ pub fn advance(r: &mut Settlement, e: Event) -> Result<(), Refusal>
 // The event by value. Where the compiler puts this into its caller, it takes the answer apart entry by entry.
 #[tactic(auto, unfolding(crate::specs::InPlace::advanced, crate::specs::Events::outcome), using(basics::proofs::Refusals::some_number, crate::proofs::Places::played_in_place, crate::proofs::Places::played_faulty))]
 #[inline(never)]
-pub fn play(r: Settlement, e: Event) -> Outcome
+pub fn play(mut r: Settlement, e: Event) -> Outcome
     ensures { outcome_told result ≡ played r (meant e) }
 {
     if faulty(&r) {
@@ -89,9 +90,8 @@ pub fn play(r: Settlement, e: Event) -> Outcome
             settlement: r,
         });
     }
-    let mut next = r;
-    match advance(&mut next, e) {
-        Ok(()) => Ok(next),
+    match advance(&mut r, e) {
+        Ok(()) => Ok(r),
         Err(why) => Err(Refused { why, settlement: r }),
     }
 }
