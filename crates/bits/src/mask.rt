@@ -29,5 +29,5 @@ pub fn mask_with(mask: u32, s: u8) -> u32
 pub fn mask_count(mask: u32) -> u8
     ensures { result ≡ size mask }
 {
-    mask.count_ones() as u8
+    u32::count_ones(mask) as u8
 }

@@ -13,7 +13,7 @@ pub const WORD_BITS: u8 = 32;
 pub fn bit_length(x: Word) -> u8
     ensures { result ≡ bit_length x }
 {
-    (WORD_BITS - x.leading_zeros() as u8).max(1)
+    (WORD_BITS - u32::leading_zeros(x) as u8).max(1)
 }
 
 // Bit k of x. A word has no bit at or past its width: there it is 0.
@@ -43,7 +43,7 @@ pub fn first_difference(a: Word, b: Word, k: u8) -> Option<u8>
     ensures { result ≡ first_difference k a b }
 {
     let differing = a ^ b;
-    let lowest = differing.trailing_zeros() as u8;
+    let lowest = u32::trailing_zeros(differing) as u8;
     if WORD_BITS <= k {
         return (differing != 0).then_some(lowest);
     }
