@@ -1,18 +1,31 @@
 // The five events on a lent settlement. Each calls the event by value, stores the settlement that it answers, and answers the refusal.
 // Document 01 names this form, and the entries one by one.
-ghost use Rattle.std.specs.Prelude.{◌≡◌};
+ghost use Rattle.std.specs.Prelude.{◌≡◌, IfErr};
 ghost use Rattle.basics.specs.Refusals.{told};
 ghost use Rattle.consensus.specs.Events.{claim, deliver, step, lose, answer};
 ghost use Rattle.event.specs.Meant.{meant};
 ghost use Rattle.settlement.specs.Events.{played};
-ghost use Rattle.settlement.specs.Outcome.{leaving};
+ghost use Rattle.settlement.specs.Outcome.{leaving, outcome_told};
 
-use crate::opening::store;
 use basics::refusal::Refusal;
 use bits::word::Word;
 use event::event::Event;
 use settlement::events::{answer, claim, deliver, lose, step};
-use settlement::record::Settlement;
+use settlement::record::{Outcome, Settlement};
+
+// What an event by value answers, stored: a refused one hands back the very settlement that it was given, which stands there.
+fn store(r: &mut Settlement, outcome: &Outcome) -> Result<(), Refusal>
+    requires { IfErr outcome.now (λ refused. refused.settlement ≡ r.old) }
+    ensures { leaving (told result) r.new ≡ outcome_told outcome.now }
+{
+    match outcome {
+        Ok(settlement) => {
+            *r = *settlement;
+            Ok(())
+        }
+        Err(refused) => Err(refused.why),
+    }
+}
 
 // CLAIM s, v.
 pub fn claim_lent(r: &mut Settlement, s: u8, v: Word) -> Result<(), Refusal>
@@ -49,7 +62,8 @@ pub fn answer_lent(r: &mut Settlement, b: u8, a: u8) -> Result<(), Refusal>
     store(r, &answer(*r, b, a))
 }
 
-// One event, whichever it is, by the entry of its name.
+// One event, whichever it is, by the entry of its name. Where the compiler puts this into its caller, it takes the answer apart entry by entry.
+#[inline(never)]
 pub fn play_lent(r: &mut Settlement, e: Event) -> Result<(), Refusal>
     ensures { leaving (told result) r.new ≡ played r.old (meant e) }
 {

@@ -12,10 +12,10 @@ use settlement::look_ballot::look_ballot;
 use settlement::open::open;
 use settlement::record::{Outcome, Settlement, Standing, Tally};
 
-// What a call by value answers, stored: a refused event hands back the very settlement that it was given.
+// What OPEN answers, stored: refused, the blank settlement.
 // Where the compiler puts this into its caller, it takes the answer apart entry by entry.
 #[inline(never)]
-pub(crate) fn store(r: &mut Settlement, outcome: &Outcome) -> Result<(), Refusal>
+fn store_opened(r: &mut Settlement, outcome: &Outcome) -> Result<(), Refusal>
     ensures { leaving (told result) r.new ≡ outcome_told outcome.now }
 {
     match outcome {
@@ -34,7 +34,7 @@ pub(crate) fn store(r: &mut Settlement, outcome: &Outcome) -> Result<(), Refusal
 pub fn open_lent(r: &mut Settlement, n: u8, rule: u8) -> Result<(), Refusal>
     ensures { leaving (told result) r.new ≡ opened n rule }
 {
-    store(r, &open(n, rule))
+    store_opened(r, &open(n, rule))
 }
 
 // LOOK s. The settlement is only read.
