@@ -1,5 +1,6 @@
 // The five events on a lent settlement. Each calls the event by value, stores the settlement that it answers, and answers the refusal.
 // Document 01 names this form, and the entries one by one.
+// Where the compiler puts an entry into its caller, it takes the answer apart entry by entry.
 ghost use Rattle.std.specs.Prelude.{◌≡◌, IfErr};
 ghost use Rattle.basics.specs.Refusals.{told};
 ghost use Rattle.consensus.specs.Events.{claim, deliver, step, lose, answer};
@@ -28,6 +29,7 @@ fn store(r: &mut Settlement, outcome: &Outcome) -> Result<(), Refusal>
 }
 
 // CLAIM s, v.
+#[inline(never)]
 pub fn claim_lent(r: &mut Settlement, s: u8, v: Word) -> Result<(), Refusal>
     ensures { leaving (told result) r.new ≡ played r.old (claim s v) }
 {
@@ -35,6 +37,7 @@ pub fn claim_lent(r: &mut Settlement, s: u8, v: Word) -> Result<(), Refusal>
 }
 
 // DELIVER t, s.
+#[inline(never)]
 pub fn deliver_lent(r: &mut Settlement, t: u8, s: u8) -> Result<(), Refusal>
     ensures { leaving (told result) r.new ≡ played r.old (deliver t s) }
 {
@@ -42,6 +45,7 @@ pub fn deliver_lent(r: &mut Settlement, t: u8, s: u8) -> Result<(), Refusal>
 }
 
 // STEP s.
+#[inline(never)]
 pub fn step_lent(r: &mut Settlement, s: u8) -> Result<(), Refusal>
     ensures { leaving (told result) r.new ≡ played r.old (step s) }
 {
@@ -49,6 +53,7 @@ pub fn step_lent(r: &mut Settlement, s: u8) -> Result<(), Refusal>
 }
 
 // LOSE s.
+#[inline(never)]
 pub fn lose_lent(r: &mut Settlement, s: u8) -> Result<(), Refusal>
     ensures { leaving (told result) r.new ≡ played r.old (lose s) }
 {
@@ -56,14 +61,14 @@ pub fn lose_lent(r: &mut Settlement, s: u8) -> Result<(), Refusal>
 }
 
 // ANSWER b, a.
+#[inline(never)]
 pub fn answer_lent(r: &mut Settlement, b: u8, a: u8) -> Result<(), Refusal>
     ensures { leaving (told result) r.new ≡ played r.old (answer b a) }
 {
     store(r, &answer(*r, b, a))
 }
 
-// One event, whichever it is, by the entry of its name. Where the compiler puts this into its caller, it takes the answer apart entry by entry.
-#[inline(never)]
+// One event, whichever it is, by the entry of its name.
 pub fn play_lent(r: &mut Settlement, e: Event) -> Result<(), Refusal>
     ensures { leaving (told result) r.new ≡ played r.old (meant e) }
 {
